@@ -1,0 +1,12 @@
+use borrow.Author.Needs.{needs}
+use Rattle.quad.proofs.QuadState.is_conflict.Statement.{statement}
+use Rattle.quad.proofs.QuadState.is_conflict.Tie as tie
+
+bits-requires : tie.Need-bits-requires
+bits-requires c κs = search needs
+
+returns : tie.Need-returns
+returns c = rw (c .bits .ensures)
+
+pub is-conflict-spec : {M : Type 1} → statement M
+is-conflict-spec = tie.close (tie.spec bits-requires returns)

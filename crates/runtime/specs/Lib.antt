@@ -1,0 +1,3 @@
+pub mod Trap
+pub mod Profile
+pub mod Fuel
