@@ -97,10 +97,8 @@ impl Header {
     /// length that 32 bits would wrap into one that looks right.
     fn layout_holds(&self, image: &[u8]) -> bool {
         let functions = HEADER as u64;
-        let instructions =
-            functions + FUNCTION_RECORD as u64 * u64::from(self.function_count);
-        let total =
-            instructions + INSTRUCTION_RECORD as u64 * u64::from(self.instruction_count);
+        let instructions = functions + FUNCTION_RECORD as u64 * u64::from(self.function_count);
+        let total = instructions + INSTRUCTION_RECORD as u64 * u64::from(self.instruction_count);
         u64::from(u32_at(image, 12)) == functions
             && u64::from(u32_at(image, 16)) == instructions
             && u64::from(u32_at(image, 20)) == total
@@ -192,7 +190,15 @@ impl Record {
     }
 
     fn plain(self) -> Option<Instr> {
-        let Self { a, small: 0, b: 0, c: 0, w: 0, .. } = self else {
+        let Self {
+            a,
+            small: 0,
+            b: 0,
+            c: 0,
+            w: 0,
+            ..
+        } = self
+        else {
             return None;
         };
         match (self.opcode, a) {
@@ -214,16 +220,31 @@ impl Record {
                 let value = QuadState::from_bits(self.small)?;
                 Some(Instr::LoadQuad { dst, value })
             }
-            (5, 0..=1, 0) => Some(Instr::LoadBool { dst, value: self.small == 1 }),
-            (6, 0, w) => Some(Instr::LoadI32 { dst, value: w as i32 }),
+            (5, 0..=1, 0) => Some(Instr::LoadBool {
+                dst,
+                value: self.small == 1,
+            }),
+            (6, 0, w) => Some(Instr::LoadI32 {
+                dst,
+                value: w as i32,
+            }),
             (7, 0, w) => Some(Instr::LoadU32 { dst, value: w }),
-            (8, 0, w) => Some(Instr::LoadFx { dst, value: Fx::from_raw(w as i32) }),
+            (8, 0, w) => Some(Instr::LoadFx {
+                dst,
+                value: Fx::from_raw(w as i32),
+            }),
             _ => None,
         }
     }
 
     fn two_registers(self) -> Option<Instr> {
-        let Self { small: 0, c: 0, w: 0, .. } = self else {
+        let Self {
+            small: 0,
+            c: 0,
+            w: 0,
+            ..
+        } = self
+        else {
             return None;
         };
         let (dst, src) = (RegId(self.a), RegId(self.b));
@@ -253,7 +274,14 @@ impl Record {
     }
 
     fn jump(self) -> Option<Instr> {
-        let Self { small: 0, b: 0, c: 0, w: target, .. } = self else {
+        let Self {
+            small: 0,
+            b: 0,
+            c: 0,
+            w: target,
+            ..
+        } = self
+        else {
             return None;
         };
         let cond = RegId(self.a);
@@ -267,15 +295,24 @@ impl Record {
 
     fn call_or_return(self) -> Option<Instr> {
         match self {
-            Self { opcode: 54, small: 0, .. } => Some(Instr::Call {
+            Self {
+                opcode: 54,
+                small: 0,
+                ..
+            } => Some(Instr::Call {
                 dst: RegId(self.a),
                 function: FunctionId(self.b),
                 arg_base: RegId(self.c),
                 arg_count: u16::try_from(self.w).ok()?,
             }),
-            Self { opcode: 55, small: 0, b: 0, c: 0, w: 0, .. } => {
-                Some(Instr::Ret { src: RegId(self.a) })
-            }
+            Self {
+                opcode: 55,
+                small: 0,
+                b: 0,
+                c: 0,
+                w: 0,
+                ..
+            } => Some(Instr::Ret { src: RegId(self.a) }),
             _ => None,
         }
     }

@@ -19,9 +19,9 @@ pub fn hex_number(field: &[u8], width: usize) -> Option<u64> {
     if field.len() != width {
         return None;
     }
-    field
-        .iter()
-        .try_fold(0, |number, byte| Some(number << 4 | u64::from(digit(*byte)?)))
+    field.iter().try_fold(0, |number, byte| {
+        Some(number << 4 | u64::from(digit(*byte)?))
+    })
 }
 
 /// Bytes as pairs of lower-case hex digits, or `-` for no bytes at all.
@@ -29,7 +29,7 @@ pub fn hex_bytes(field: &[u8]) -> Option<Vec<u8>> {
     if field == b"-" {
         return Some(Vec::new());
     }
-    if field.is_empty() || field.len() % 2 != 0 {
+    if field.is_empty() || field.len() % 2 == 1 {
         return None;
     }
     field
@@ -55,7 +55,9 @@ mod tests {
         assert_eq!(decimal::<u16>(b"0"), Some(0));
         assert_eq!(decimal::<u16>(b"65535"), Some(65_535));
         assert_eq!(decimal::<u64>(b"18446744073709551615"), Some(u64::MAX));
-        for bad in ["", "+1", "-1", "01", "00", " 1", "1 ", "0x1", "1_0", "\u{661}"] {
+        for bad in [
+            "", "+1", "-1", "01", "00", " 1", "1 ", "0x1", "1_0", "\u{661}",
+        ] {
             assert_eq!(decimal::<u64>(bad.as_bytes()), None, "{bad:?}");
         }
     }

@@ -1,0 +1,5 @@
+pub mod Checked
+pub mod Fixed
+pub mod Value
+pub mod Result
+pub mod Digest

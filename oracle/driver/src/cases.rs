@@ -1,0 +1,293 @@
+//! The fixed list of operations: what `oracle operate-cases` writes.
+//!
+//! The list depends on nothing but this file: edge values, kinds and missing
+//! registers in full, then random pairs from a generator with a fixed seed.
+
+use std::collections::HashSet;
+use std::io::{self, BufWriter, Write};
+
+use crate::operate::{one_operand, Case};
+use crate::word::{word, BOOL, FX, I32, QUAD, U32, UNIT};
+
+const KINDS: [u64; 6] = [UNIT, QUAD, BOOL, I32, U32, FX];
+
+/// 46,340 is the largest number whose square fits; 32,768 times 65,536 is the
+/// first power of two that does not, while its negative does.
+const I32_EDGES: [i32; 15] = [
+    i32::MIN,
+    i32::MIN + 1,
+    -65_536,
+    -46_341,
+    -32_768,
+    -2,
+    -1,
+    0,
+    1,
+    2,
+    32_768,
+    46_340,
+    65_536,
+    i32::MAX - 1,
+    i32::MAX,
+];
+
+/// 65,535 times 65,537 is the largest number of all, 65,536 squared one more.
+const U32_EDGES: [u32; 12] = [
+    0,
+    1,
+    2,
+    3,
+    65_535,
+    65_536,
+    65_537,
+    (1 << 31) - 1,
+    1 << 31,
+    (1 << 31) + 1,
+    u32::MAX - 1,
+    u32::MAX,
+];
+
+/// Raw units: 65,536 is one, 32,768 a half, 131,072 two.
+const FX_EDGES: [i32; 15] = [
+    i32::MIN,
+    i32::MIN + 1,
+    -131_072,
+    -65_537,
+    -65_536,
+    -32_768,
+    -1,
+    0,
+    1,
+    32_768,
+    65_535,
+    65_536,
+    131_072,
+    i32::MAX - 1,
+    i32::MAX,
+];
+
+const RANDOM_PAIRS: u32 = 3_000;
+const SEED: u64 = 0x6b6e_6974_0000_0001;
+
+/// Writes the list, and to `notes` how long it is.
+pub fn write(output: impl Write, mut notes: impl Write) -> io::Result<()> {
+    let cases = all();
+    let mut output = BufWriter::new(output);
+    for case in &cases {
+        writeln!(output, "{}", case.line())?;
+    }
+    output.flush()?;
+    writeln!(notes, "{}", summary(&cases))
+}
+
+fn summary(cases: &[Case]) -> String {
+    let count = |opcode| cases.iter().filter(|case| case.opcode == opcode).count();
+    let counts: Vec<usize> = (3..=50).map(count).collect();
+    let fewest = counts.iter().min().copied().unwrap_or(0);
+    let most = counts.iter().max().copied().unwrap_or(0);
+    format!("{} lines, per opcode from {fewest} to {most}", cases.len())
+}
+
+/// All cases in their order, each one once.
+pub fn all() -> Vec<Case> {
+    let mut list = List::default();
+    add_loads(&mut list);
+    for opcode in 9..=50 {
+        add_edges(&mut list, opcode);
+        add_kinds(&mut list, opcode);
+        add_missing(&mut list, opcode);
+    }
+    add_random(&mut list);
+    list.cases
+}
+
+/// Keeps the first of equal cases.
+#[derive(Default)]
+struct List {
+    cases: Vec<Case>,
+    seen: HashSet<Case>,
+}
+
+impl List {
+    fn add(&mut self, case: Case) {
+        if self.seen.insert(case) {
+            self.cases.push(case);
+        }
+    }
+
+    fn add_pair(&mut self, opcode: u8, lhs: Option<u64>, rhs: Option<u64>) {
+        self.add(Case {
+            opcode,
+            small: 0,
+            w: 0,
+            lhs,
+            rhs,
+        });
+    }
+
+    fn add_load(&mut self, opcode: u8, small: u8, w: u32) {
+        let unit = Some(word(UNIT, 0));
+        self.add(Case {
+            opcode,
+            small,
+            w,
+            lhs: unit,
+            rhs: unit,
+        });
+    }
+}
+
+/// The values that a load carries, each where document 01 puts it.
+fn add_loads(list: &mut List) {
+    for (opcode, kind) in (3..=8).zip(KINDS) {
+        for edge in edges(kind) {
+            let payload = edge as u32;
+            match kind {
+                QUAD | BOOL => list.add_load(opcode, payload as u8, 0),
+                _ => list.add_load(opcode, 0, payload),
+            }
+        }
+    }
+}
+
+/// Every pair of edges of the opcode's own type; for an opcode that reads one
+/// register, every edge of every kind.
+fn add_edges(list: &mut List, opcode: u8) {
+    if one_operand(opcode) {
+        for edge in KINDS.into_iter().flat_map(edges) {
+            list.add_pair(opcode, Some(edge), Some(word(UNIT, 0)));
+        }
+        return;
+    }
+    let edges = own_kind(opcode).map(edges).unwrap_or_default();
+    for lhs in &edges {
+        for rhs in &edges {
+            list.add_pair(opcode, Some(*lhs), Some(*rhs));
+        }
+    }
+}
+
+/// Every pair of kinds, with zero and non-zero payloads on both sides: which
+/// trap comes first may hang on a zero of the right or the wrong type.
+fn add_kinds(list: &mut List, opcode: u8) {
+    for lhs in representatives() {
+        for rhs in representatives() {
+            list.add_pair(opcode, Some(lhs), Some(rhs));
+        }
+    }
+}
+
+/// Every way to miss a register, with each kind on the other side.
+fn add_missing(list: &mut List, opcode: u8) {
+    for present in representatives() {
+        list.add_pair(opcode, None, Some(present));
+        list.add_pair(opcode, Some(present), None);
+    }
+    list.add_pair(opcode, None, None);
+}
+
+/// Each opcode in its turn, so that the pairs are spread evenly.
+fn add_random(list: &mut List) {
+    let mut random = SplitMix64(SEED);
+    for opcode in (9..=50).cycle().take(RANDOM_PAIRS as usize) {
+        let lhs = random.operand(opcode);
+        let rhs = random.operand(opcode);
+        list.add_pair(opcode, Some(lhs), Some(rhs));
+    }
+}
+
+/// The kind of an opcode's operands. Move takes any.
+fn own_kind(opcode: u8) -> Option<u64> {
+    match opcode {
+        9..=17 => Some(QUAD),
+        18..=22 => Some(BOOL),
+        23..=31 => Some(I32),
+        32..=40 => Some(U32),
+        41..=49 => Some(FX),
+        _ => None,
+    }
+}
+
+/// The register words of a kind's edge values.
+fn edges(kind: u64) -> Vec<u64> {
+    let payloads: Vec<u32> = match kind {
+        QUAD => (0..4).collect(),
+        BOOL => (0..2).collect(),
+        I32 => I32_EDGES.iter().map(|edge| *edge as u32).collect(),
+        U32 => U32_EDGES.to_vec(),
+        FX => FX_EDGES.iter().map(|edge| *edge as u32).collect(),
+        _ => vec![0],
+    };
+    payloads
+        .into_iter()
+        .map(|payload| word(kind, payload))
+        .collect()
+}
+
+/// For each kind one zero and one non-zero payload; Unit has only the one.
+fn representatives() -> [u64; 11] {
+    [
+        word(UNIT, 0),
+        word(QUAD, 0),
+        word(QUAD, 2),
+        word(BOOL, 0),
+        word(BOOL, 1),
+        word(I32, 0),
+        word(I32, 5),
+        word(U32, 0),
+        word(U32, 5),
+        word(FX, 0),
+        word(FX, 98_304),
+    ]
+}
+
+/// The well-known generator of this name: small, and the same everywhere.
+struct SplitMix64(u64);
+
+impl SplitMix64 {
+    fn next(&mut self) -> u64 {
+        self.0 = self.0.wrapping_add(0x9e37_79b9_7f4a_7c15);
+        let mut z = self.0;
+        z = (z ^ (z >> 30)).wrapping_mul(0xbf58_476d_1ce4_e5b9);
+        z = (z ^ (z >> 27)).wrapping_mul(0x94d0_49bb_1331_11eb);
+        z ^ (z >> 31)
+    }
+
+    fn below(&mut self, bound: u64) -> u64 {
+        self.next() % bound
+    }
+
+    /// An operand of the opcode's own kind, but for one in sixteen.
+    fn operand(&mut self, opcode: u8) -> u64 {
+        let any = KINDS[self.below(6) as usize];
+        let stray = self.below(16) == 0;
+        let kind = own_kind(opcode).filter(|_| !stray).unwrap_or(any);
+        let payload = match kind {
+            UNIT => 0,
+            QUAD => self.below(4) as u32,
+            BOOL => self.below(2) as u32,
+            _ => self.payload(kind),
+        };
+        word(kind, payload)
+    }
+
+    /// Half of them over the full range. The rest have few bits, so that
+    /// products fit, quotients are not all 0 and equal operands occur; signed
+    /// kinds take both signs.
+    fn payload(&mut self, kind: u64) -> u32 {
+        let full = self.next() as u32;
+        if self.below(2) == 0 {
+            return full;
+        }
+        let small = full >> (1 + self.below(31));
+        let negative = kind != U32 && self.below(2) == 0;
+        if negative {
+            small.wrapping_neg()
+        } else {
+            small
+        }
+    }
+}
+
+#[cfg(test)]
+mod tests;
