@@ -1,6 +1,8 @@
 -- Numbers of a short range, one by one: how a decision over ranges of numbers is tied to a definition given number by number.
 -- Assumes nothing.
+use mathlib.Core.Bool.{Bool, true, false, _&&_}
 use mathlib.Core.Path.{_≡_, subst}
+use lib.Dec.{T}
 use Prim.Native.Nat.{ℕ, zero, suc, _+_, _≤_, _<_}
 use native.Mathlib.Omega.{arith}
 use native.Mathlib.Decide.{decLe}
@@ -18,6 +20,24 @@ by-first P lo k (no h) e p f = f (omega arith)
 pub each : (P : ℕ → Type 0) (lo n k : ℕ) → Each P lo n → lo ≤ k → k < lo + n → P k
 each P lo zero k e p q = absurd (omega arith)
 each P lo (suc n) k e p q = by-first P lo k (decLe k lo) (e .0) p (λ h. each P (suc lo) n k (e .1) h (omega arith))
+
+-- a test computed at each of the numbers
+abbrev pub Passes : (ℕ → Bool) → ℕ → ℕ → Bool
+Passes test lo zero = true
+Passes test lo (suc n) = test lo && Passes test (suc lo) n
+
+both-true : (a b : Bool) → T (a && b) → T a × T b
+both-true true b t = (tt, t)
+both-true false b t = absurd t
+
+passed : (test : ℕ → Bool) (lo n : ℕ) → T (Passes test lo n) → Each (λ k. T (test k)) lo n
+passed test lo zero t = tt
+passed test lo (suc n) t =
+    let h = both-true (test lo) (Passes test (suc lo) n) t in (h .0, passed test (suc lo) n (h .1))
+
+-- one that passes at each passes at any one of them
+pub passes : (test : ℕ → Bool) (lo n k : ℕ) → T (Passes test lo n) → lo ≤ k → k < lo + n → T (test k)
+passes test lo n k t = each (λ m. T (test m)) lo n k (passed test lo n t)
 
 -- what a match leaves, `c .match .rest`, after arms for lo, lo + 1, .. : n of them
 abbrev pub Left : ℕ → ℕ → ℕ → Type 0

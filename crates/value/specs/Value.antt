@@ -11,19 +11,54 @@ use Rattle.value.specs.declared.word.WordFound.{WordFound}
 use Rattle.value.specs.declared.word.WordFound.the-variants.{Value, NoValue}
 use Rattle.value.specs.Checked.{signed, payload}
 
--- the number of a value's kind, as registers and the digest carry it
-abbrev pub kindOf : CoreValue → ℕ
-kindOf Unit = 0
-kindOf (Quad q) = 1
-kindOf (Bool b) = 2
-kindOf (I32 v) = 3
-kindOf (U32 v) = 4
-kindOf (Fx v) = 5
-kindOf (Tuple t) = 6
-kindOf (Record r) = 7
-kindOf (Adt a) = 8
+-- ---- the numbers of the kinds, as registers and the digest carry them
+abbrev pub unitKind : ℕ
+unitKind = 0
 
--- its payload: a quad's bits, 0 or 1 for a Bool, a signed number as two's complement, a reference's number
+abbrev pub quadKind : ℕ
+quadKind = 1
+
+abbrev pub boolKind : ℕ
+boolKind = 2
+
+abbrev pub i32Kind : ℕ
+i32Kind = 3
+
+abbrev pub u32Kind : ℕ
+u32Kind = 4
+
+abbrev pub fxKind : ℕ
+fxKind = 5
+
+abbrev pub tupleKind : ℕ
+tupleKind = 6
+
+abbrev pub recordKind : ℕ
+recordKind = 7
+
+abbrev pub adtKind : ℕ
+adtKind = 8
+
+-- how many payloads a kind has: they are the numbers below this
+abbrev pub payloads : ℕ → ℕ
+payloads kind = pick (eqb kind unitKind) 1 (pick (eqb kind quadKind) 4 (pick (eqb kind boolKind) 2 (2 ^ 32)))
+
+-- the word of a kind and a payload
+abbrev pub register : ℕ → ℕ → ℕ
+register kind p = kind * 2 ^ 32 + p
+
+abbrev pub kindOf : CoreValue → ℕ
+kindOf Unit = unitKind
+kindOf (Quad q) = quadKind
+kindOf (Bool b) = boolKind
+kindOf (I32 v) = i32Kind
+kindOf (U32 v) = u32Kind
+kindOf (Fx v) = fxKind
+kindOf (Tuple t) = tupleKind
+kindOf (Record r) = recordKind
+kindOf (Adt a) = adtKind
+
+-- a value's payload: a quad's bits, 0 or 1 for a Bool, a signed number as two's complement, a reference's number
 abbrev pub payloadOf : CoreValue → ℕ
 payloadOf Unit = 0
 payloadOf (Quad q) = quadBits q
@@ -36,7 +71,7 @@ payloadOf (Record r) = r .0
 payloadOf (Adt a) = a .0
 
 unfoldable pub wordOf : CoreValue → ℕ
-wordOf v = kindOf v * 2 ^ 32 + payloadOf v
+wordOf v = register (kindOf v) (payloadOf v)
 
 -- ---- the way back. A word of another kind, or with a payload that its kind does not have, holds no value
 abbrev pub unitValue : ℕ → WordFound
@@ -52,15 +87,15 @@ boolValue p = pick (eqb p 0) (Value (Bool false)) (pick (eqb p 1) (Value (Bool t
 
 abbrev pub valueOfKind : ℕ → ℕ → WordFound
 valueOfKind k p =
-    pick (eqb k 0) (unitValue p)
-    (pick (eqb k 1) (quadValue p)
-    (pick (eqb k 2) (boolValue p)
-    (pick (eqb k 3) (Value (I32 (signed p)))
-    (pick (eqb k 4) (Value (U32 p))
-    (pick (eqb k 5) (Value (Fx (record { 0 = signed p })))
-    (pick (eqb k 6) (Value (Tuple (record { 0 = p })))
-    (pick (eqb k 7) (Value (Record (record { 0 = p })))
-    (pick (eqb k 8) (Value (Adt (record { 0 = p }))) NoValue))))))))
+    pick (eqb k unitKind) (unitValue p)
+    (pick (eqb k quadKind) (quadValue p)
+    (pick (eqb k boolKind) (boolValue p)
+    (pick (eqb k i32Kind) (Value (I32 (signed p)))
+    (pick (eqb k u32Kind) (Value (U32 p))
+    (pick (eqb k fxKind) (Value (Fx (record { 0 = signed p })))
+    (pick (eqb k tupleKind) (Value (Tuple (record { 0 = p })))
+    (pick (eqb k recordKind) (Value (Record (record { 0 = p })))
+    (pick (eqb k adtKind) (Value (Adt (record { 0 = p }))) NoValue))))))))
 
 unfoldable pub valueAt : ℕ → WordFound
 valueAt word = valueOfKind (word / 2 ^ 32) (word % 2 ^ 32)

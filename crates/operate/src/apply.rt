@@ -1,0 +1,167 @@
+// The operations on payloads of the opcode's own kind, in the order of the opcodes.
+use crate::Outcome;
+use crate::read;
+use value::checked;
+use value::checked::CheckedI32;
+use value::checked::CheckedU32;
+use value::fx::CheckedFx;
+use value::fx::Fx;
+ghost use mathlib.Core.Path.{_≡_};
+ghost use mathlib.Core.Bool.{Bool};
+ghost use Prim.Native.Nat.{_≤_, _<_};
+ghost use Rattle.quad.specs.Quad.{inverseBits};
+ghost use Rattle.operate.specs.Rule.{onOne, onTwo, boolResult, i32Result, u32Result, fxResult};
+ghost use Rattle.operate.specs.Opcodes.{ruleOf};
+
+fn truth(b: bool) -> Outcome
+    ensures { λ r. ⌜ r ≡ boolResult b ⌝ }
+{
+    if b { read::word(2, 1) } else { read::word(2, 0) }
+}
+
+fn signed(c: CheckedI32) -> Outcome
+    ensures { λ r. ⌜ r ≡ i32Result c ⌝ }
+{
+    match c {
+        CheckedI32::Value(v) => read::word(3, checked::payload_of(v)),
+        CheckedI32::Trap(t) => Outcome::Trap(t),
+    }
+}
+
+fn unsigned(c: CheckedU32) -> Outcome
+    ensures { λ r. ⌜ r ≡ u32Result c ⌝ }
+{
+    match c {
+        CheckedU32::Value(v) => read::word(4, v),
+        CheckedU32::Trap(t) => Outcome::Trap(t),
+    }
+}
+
+fn fixed(c: CheckedFx) -> Outcome
+    ensures { λ r. ⌜ r ≡ fxResult c ⌝ }
+{
+    match c {
+        CheckedFx::Value(v) => read::word(5, v.payload()),
+        CheckedFx::Trap(t) => Outcome::Trap(t),
+    }
+}
+
+fn inverse(bits: u32) -> u32
+    ensures { λ r. ⌜ r ≡ inverseBits bits ⌝ }
+{
+    match bits {
+        1 => 2,
+        2 => 1,
+        _ => bits,
+    }
+}
+
+// QNot, QIsKnown, QIsConflict, QIsNull, BoolNot.
+pub fn one(op: u8, p: u32) -> Outcome
+    requires { ⌜ (9 ≤ op) × (op < 19) ⌝ }
+    ensures { λ r. ⌜ r ≡ onOne (ruleOf op) p ⌝ }
+{
+    match op {
+        9 => read::word(1, inverse(p)),
+        15 => truth((p == 1) | (p == 2)),
+        16 => truth(p == 3),
+        17 => truth(p == 0),
+        18 => truth(p == 0),
+        _ => Outcome::NoValue,
+    }
+}
+
+// QJoin, QMeet, QImpl, QEq, QNe.
+fn quads(op: u8, l: u32, r: u32) -> Outcome
+    requires { ⌜ (10 ≤ op) × (op < 15) ⌝ }
+    ensures { λ o. ⌜ o ≡ onTwo (ruleOf op) l r ⌝ }
+{
+    match op {
+        10 => read::word(1, l | r),
+        11 => read::word(1, l & r),
+        12 => read::word(1, inverse(l) | r),
+        13 => truth(l == r),
+        _ => truth(l != r),
+    }
+}
+
+// BoolEq, BoolNe.
+fn bools(op: u8, l: u32, r: u32) -> Outcome
+    requires { ⌜ (21 ≤ op) × (op < 23) ⌝ }
+    ensures { λ o. ⌜ o ≡ onTwo (ruleOf op) l r ⌝ }
+{
+    if op == 21 { truth(l == r) } else { truth(l != r) }
+}
+
+// I32Add, I32Sub, I32Mul, I32Div, I32Eq, I32Lt, I32Le, I32Gt, I32Ge.
+fn i32s(op: u8, l: u32, r: u32) -> Outcome
+    requires { ⌜ (23 ≤ op) × (op < 32) ⌝ }
+    ensures { λ o. ⌜ o ≡ onTwo (ruleOf op) l r ⌝ }
+{
+    let a = checked::signed_of(l);
+    let b = checked::signed_of(r);
+    match op {
+        23 => signed(checked::add_i32(a, b)),
+        24 => signed(checked::sub_i32(a, b)),
+        25 => signed(checked::mul_i32(a, b)),
+        26 => signed(checked::div_i32(a, b)),
+        27 => truth(l == r),
+        28 => truth(a < b),
+        29 => truth(a <= b),
+        30 => truth(b < a),
+        _ => truth(b <= a),
+    }
+}
+
+// U32Add, U32Sub, U32Mul, U32Div, U32Eq, U32Lt, U32Le, U32Gt, U32Ge.
+fn u32s(op: u8, l: u32, r: u32) -> Outcome
+    requires { ⌜ (32 ≤ op) × (op < 41) ⌝ }
+    ensures { λ o. ⌜ o ≡ onTwo (ruleOf op) l r ⌝ }
+{
+    match op {
+        32 => unsigned(checked::add_u32(l, r)),
+        33 => unsigned(checked::sub_u32(l, r)),
+        34 => unsigned(checked::mul_u32(l, r)),
+        35 => unsigned(checked::div_u32(l, r)),
+        36 => truth(l == r),
+        37 => truth(l < r),
+        38 => truth(l <= r),
+        39 => truth(r < l),
+        _ => truth(r <= l),
+    }
+}
+
+// FxAdd, FxSub, FxMul, FxDiv, FxEq, FxLt, FxLe, FxGt, FxGe.
+fn fxs(op: u8, l: u32, r: u32) -> Outcome
+    requires { ⌜ (41 ≤ op) × (op < 50) ⌝ }
+    ensures { λ o. ⌜ o ≡ onTwo (ruleOf op) l r ⌝ }
+{
+    let a = checked::signed_of(l);
+    let b = checked::signed_of(r);
+    match op {
+        41 => fixed(Fx::from_raw(a).add_checked(Fx::from_raw(b))),
+        42 => fixed(Fx::from_raw(a).sub_checked(Fx::from_raw(b))),
+        43 => fixed(Fx::from_raw(a).mul_checked(Fx::from_raw(b))),
+        44 => fixed(Fx::from_raw(a).div_checked(Fx::from_raw(b))),
+        45 => truth(l == r),
+        46 => truth(a < b),
+        47 => truth(a <= b),
+        48 => truth(b < a),
+        _ => truth(b <= a),
+    }
+}
+
+// The operation on lhs and rhs.
+pub fn two(op: u8, l: u32, r: u32) -> Outcome
+    requires { ⌜ (10 ≤ op) × (op < 50) ⌝ }
+    ensures { λ o. ⌜ o ≡ onTwo (ruleOf op) l r ⌝ }
+{
+    match op {
+        10..=14 => quads(op, l, r),
+        21..=22 => bools(op, l, r),
+        23..=31 => i32s(op, l, r),
+        32..=40 => u32s(op, l, r),
+        41..=49 => fxs(op, l, r),
+        _ => Outcome::NoValue,
+    }
+}
