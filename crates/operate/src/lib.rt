@@ -25,7 +25,7 @@ pub enum Outcome {
 // The type of an opcode's operands, by its number.
 fn kind_of(op: u8) -> u64
     requires { ⌜ (9 ≤ op) × (op < 50) ⌝ }
-    ensures { λ r. ⌜ r ≡ ruleKind (ruleOf op) ⌝ }
+    ensures { λ r. ⌜ (r ≡ ruleKind (ruleOf op)) × (r < 9) ⌝ }
 {
     match op {
         0..=17 => 1,

@@ -1,57 +1,53 @@
+use native.Mathlib.Omega.{arith}
+use mathlib.Core.Path.{_≡_}
+use Rattle.operate.specs.Rule.{onLoad}
+use Rattle.operate.specs.Opcodes.{rules, ruleOf}
+use Rattle.basis.proofs.Ranges.{past}
 use borrow.Author.Needs.{needs}
 use Rattle.operate.proofs.loaded.Statement.{statement}
 use Rattle.operate.proofs.loaded.Tie as tie
-use Rattle.operate.proofs.loaded.Reads as reads
-use Rattle.operate.proofs.loaded.Lts as lts
-use Rattle.operate.proofs.read.word.Reads as word-reads
 
--- src/lib.rt:116:14
 word-requires : tie.Need-word-requires
 word-requires c κs = search needs
 
--- src/lib.rt:117:14
 word-requires-2 : tie.Need-word-requires-2
 word-requires-2 c κs = search needs
 
--- src/lib.rt:118:14
 word-requires-3 : tie.Need-word-requires-3
 word-requires-3 c κs = search needs
 
--- src/lib.rt:119:14
 word-requires-4 : tie.Need-word-requires-4
 word-requires-4 c κs = search needs
 
--- src/lib.rt:120:14
 word-requires-5 : tie.Need-word-requires-5
 word-requires-5 c κs = search needs
 
--- src/lib.rt:121:14
 word-requires-6 : tie.Need-word-requires-6
 word-requires-6 c κs = search needs
 
--- src/lib.rt:111:1
 returns : tie.Need-returns
-returns c = ?
+unfolding rules ruleOf onLoad
+returns c = rw (c .before .match .keys1) (c .word .ensures)
 
--- src/lib.rt:111:1
 returns-2 : tie.Need-returns-2
-returns-2 c = ?
+unfolding rules ruleOf onLoad
+returns-2 c = rw (c .before .match .keys2) (c .word2 .ensures)
 
--- src/lib.rt:111:1
 returns-3 : tie.Need-returns-3
-returns-3 c = ?
+unfolding rules ruleOf onLoad
+returns-3 c = rw (c .before .match .keys3) (c .word3 .ensures)
 
--- src/lib.rt:111:1
 returns-4 : tie.Need-returns-4
-returns-4 c = ?
+unfolding rules ruleOf onLoad
+returns-4 c = rw (c .before .match .keys4) (c .word4 .ensures)
 
--- src/lib.rt:111:1
 returns-5 : tie.Need-returns-5
-returns-5 c = ?
+unfolding rules ruleOf onLoad
+returns-5 c = rw (c .before .match .keys5) (c .word5 .ensures)
 
--- src/lib.rt:111:1
 returns-6 : tie.Need-returns-6
-returns-6 c = ?
+unfolding rules ruleOf onLoad
+returns-6 c = rw (let e : c .before .before .args .op ≡ 8 = omega (arith, past _ 3 5 (c .before .match .rest) (c .before .before .pre .0)) in e) (c .word6 .ensures)
 
 pub loaded-spec : {M : Type 1} → statement M
 loaded-spec =

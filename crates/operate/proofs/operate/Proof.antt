@@ -1,102 +1,84 @@
+use native.Mathlib.Omega.{arith}
+use mathlib.Core.Path.{_∙_}
+use Rattle.operate.specs.Rule.{ruleKind, onOne, onTwo}
+use Rattle.operate.specs.Opcodes.{rules, ruleOf}
+use Rattle.operate.specs.Operate.{computed}
+use Rattle.operate.proofs.Rows.{load-rows, quad-rows, one-rows, two-rows, computes-nothing, computes-none}
 use borrow.Author.Needs.{needs}
 use Rattle.operate.proofs.operate.Statement.{statement}
 use Rattle.operate.proofs.operate.Tie as tie
-use Rattle.operate.proofs.operate.Reads as reads
-use Rattle.operate.proofs.operate.Lts as lts
-use Rattle.operate.proofs.dividing.Reads as dividing-reads
-use Rattle.operate.proofs.loaded.Reads as loaded-reads
-use Rattle.operate.proofs.moved.Reads as moved-reads
-use Rattle.operate.proofs.one_operand.Reads as one-operand-reads
-use Rattle.operate.proofs.shortcut.Reads as shortcut-reads
-use Rattle.operate.proofs.two_operands.Reads as two-operands-reads
 
--- src/lib.rt:131:14
 one-operand-requires : tie.Need-one-operand-requires
 one-operand-requires c κs = search needs
 
--- src/lib.rt:134:15
 shortcut-requires : tie.Need-shortcut-requires
 shortcut-requires c κs = search needs
 
--- src/lib.rt:135:15
 shortcut-requires-2 : tie.Need-shortcut-requires-2
 shortcut-requires-2 c κs = search needs
 
--- src/lib.rt:136:15
 dividing-requires : tie.Need-dividing-requires
 dividing-requires c κs = search needs
 
--- src/lib.rt:137:15
 dividing-requires-2 : tie.Need-dividing-requires-2
 dividing-requires-2 c κs = search needs
 
--- src/lib.rt:139:15
 moved-requires : tie.Need-moved-requires
 moved-requires c κs = search needs
 
--- src/lib.rt:130:18
 loaded-requires : tie.Need-loaded-requires
 loaded-requires c κs = search needs
 
--- src/lib.rt:132:20
 two-operands-requires : tie.Need-two-operands-requires
 two-operands-requires c κs = search needs
 
--- src/lib.rt:133:20
 one-operand-requires-2 : tie.Need-one-operand-requires-2
 one-operand-requires-2 c κs = search needs
 
--- src/lib.rt:138:20
 two-operands-requires-2 : tie.Need-two-operands-requires-2
 two-operands-requires-2 c κs = search needs
 
--- src/lib.rt:126:1
 returns : tie.Need-returns
-returns c = ?
+unfolding rules ruleOf computed ruleKind onOne onTwo
+returns c = rw (c .before .match .keys1) (rw (c .before .match .keys1) at (c .one-operand .ensures))
 
--- src/lib.rt:126:1
 returns-2 : tie.Need-returns-2
-returns-2 c = ?
+unfolding rules ruleOf computed ruleKind onOne onTwo
+returns-2 c = rw (c .before .match .keys2) (c .shortcut .ensures)
 
--- src/lib.rt:126:1
 returns-3 : tie.Need-returns-3
-returns-3 c = ?
+unfolding rules ruleOf computed ruleKind onOne onTwo
+returns-3 c = rw (c .before .match .keys3) (c .shortcut2 .ensures)
 
--- src/lib.rt:126:1
 returns-4 : tie.Need-returns-4
-returns-4 c = ?
+unfolding rules ruleOf computed ruleKind onOne onTwo
+returns-4 c = rw (c .before .match .keys4) (rw (c .before .match .keys4) at (c .dividing .ensures))
 
--- src/lib.rt:126:1
 returns-5 : tie.Need-returns-5
-returns-5 c = ?
+unfolding rules ruleOf computed ruleKind onOne onTwo
+returns-5 c = rw (c .before .match .keys5) (rw (c .before .match .keys5) at (c .dividing2 .ensures))
 
--- src/lib.rt:126:1
 returns-6 : tie.Need-returns-6
-returns-6 c = ?
+unfolding rules ruleOf computed ruleKind onOne onTwo
+returns-6 c = rw (c .before .match .keys6) (c .moved .ensures)
 
--- src/lib.rt:126:1
 returns-7 : tie.Need-returns-7
-returns-7 c = ?
+returns-7 c = c .loaded .ensures ∙ load-rows _ _ _ (omega arith) (omega arith)
 
--- src/lib.rt:126:1
 returns-8 : tie.Need-returns-8
-returns-8 c = ?
+returns-8 c = c .two-operands .ensures ∙ quad-rows _ _ _ (omega arith) (omega arith)
 
--- src/lib.rt:126:1
 returns-9 : tie.Need-returns-9
-returns-9 c = ?
+returns-9 c = c .one-operand2 .ensures ∙ one-rows _ _ _ (omega arith) (omega arith)
 
--- src/lib.rt:126:1
 returns-10 : tie.Need-returns-10
-returns-10 c = ?
+returns-10 c = c .two-operands2 .ensures ∙ two-rows _ _ _ (omega arith) (omega arith) (c .before .before .before .before .before .before .match .rest .0 .0 .1) (c .before .before .before .before .before .before .match .rest .0 .1)
 
--- src/lib.rt:126:1
 returns-11 : tie.Need-returns-11
-returns-11 c = ?
+returns-11 c = computes-nothing _ _ _ (omega arith) (c .if1 .taken)
 
--- src/lib.rt:126:1
 returns-12 : tie.Need-returns-12
-returns-12 c = ?
+returns-12 c = computes-none _ _ _ (omega arith)
 
 pub operate-spec : {M : Type 1} → statement M
 operate-spec =

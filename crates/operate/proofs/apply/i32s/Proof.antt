@@ -1,111 +1,96 @@
+use native.Mathlib.Omega.{arith}
+use mathlib.Core.Path.{_≡_, ap, _∙_}
+use lib.IntN.{_+ℤ_, _-ℤ_, _*ℤ_}
+use lib.Signed.{ltZ, leZ}
+use Rattle.value.specs.Checked.{checkedI32, dividedI32}
+use Rattle.operate.specs.Rule.{onTwo, i32Result, boolResult}
+use Rattle.operate.specs.Opcodes.{rules, ruleOf}
+use Rattle.basis.proofs.Ranges.{past}
+use Rattle.operate.proofs.Operands.{on-signed}
 use borrow.Author.Needs.{needs}
 use Rattle.operate.proofs.apply.i32s.Statement.{statement}
 use Rattle.operate.proofs.apply.i32s.Tie as tie
-use Rattle.operate.proofs.apply.i32s.Reads as reads
-use Rattle.operate.proofs.apply.i32s.Lts as lts
-use Rattle.operate.proofs.apply.signed.Reads as signed-reads
-use Rattle.operate.proofs.apply.truth.Reads as truth-reads
-use Rattle.value.proofs.checked.add_i32.Reads as add-i32-reads
-use Rattle.value.proofs.checked.div_i32.Reads as div-i32-reads
-use Rattle.value.proofs.checked.mul_i32.Reads as mul-i32-reads
-use Rattle.value.proofs.checked.signed_of.Reads as signed-of-reads
-use Rattle.value.proofs.checked.sub_i32.Reads as sub-i32-reads
 
--- src/apply.rt:101:9
 signed-of-requires : tie.Need-signed-of-requires
 signed-of-requires c κs = search needs
 
--- src/apply.rt:102:9
 signed-of-requires-2 : tie.Need-signed-of-requires-2
 signed-of-requires-2 c κs = search needs
 
--- src/apply.rt:104:22
 add-i32-requires : tie.Need-add-i32-requires
 add-i32-requires c κs = search needs
 
--- src/apply.rt:104:15
 signed-requires : tie.Need-signed-requires
 signed-requires c κs = search needs
 
--- src/apply.rt:105:22
 sub-i32-requires : tie.Need-sub-i32-requires
 sub-i32-requires c κs = search needs
 
--- src/apply.rt:105:15
 signed-requires-2 : tie.Need-signed-requires-2
 signed-requires-2 c κs = search needs
 
--- src/apply.rt:106:22
 mul-i32-requires : tie.Need-mul-i32-requires
 mul-i32-requires c κs = search needs
 
--- src/apply.rt:106:15
 signed-requires-3 : tie.Need-signed-requires-3
 signed-requires-3 c κs = search needs
 
--- src/apply.rt:107:22
 div-i32-requires : tie.Need-div-i32-requires
 div-i32-requires c κs = search needs
 
--- src/apply.rt:107:15
 signed-requires-4 : tie.Need-signed-requires-4
 signed-requires-4 c κs = search needs
 
--- src/apply.rt:108:15
 truth-requires : tie.Need-truth-requires
 truth-requires c κs = search needs
 
--- src/apply.rt:109:15
 truth-requires-2 : tie.Need-truth-requires-2
 truth-requires-2 c κs = search needs
 
--- src/apply.rt:110:15
 truth-requires-3 : tie.Need-truth-requires-3
 truth-requires-3 c κs = search needs
 
--- src/apply.rt:111:15
 truth-requires-4 : tie.Need-truth-requires-4
 truth-requires-4 c κs = search needs
 
--- src/apply.rt:112:14
 truth-requires-5 : tie.Need-truth-requires-5
 truth-requires-5 c κs = search needs
 
--- src/apply.rt:97:1
 returns : tie.Need-returns
-returns c = ?
+unfolding rules ruleOf onTwo
+returns c = rw (c .before .before .match .keys1) (c .signed .ensures ∙ ap i32Result (c .before .add-i32 .ensures ∙ on-signed (λ a b. checkedI32 (a +ℤ b)) (c .before .before .before .before .before .args .l) (c .before .before .before .before .before .args .r) (c .before .before .before .before .before .fits .l .fits) (c .before .before .before .before .before .fits .r .fits) (c .before .before .before .before .signed-of .ensures) (c .before .before .before .signed-of2 .ensures)))
 
--- src/apply.rt:97:1
 returns-2 : tie.Need-returns-2
-returns-2 c = ?
+unfolding rules ruleOf onTwo
+returns-2 c = rw (c .before .before .match .keys2) (c .signed2 .ensures ∙ ap i32Result (c .before .sub-i32 .ensures ∙ on-signed (λ a b. checkedI32 (a -ℤ b)) (c .before .before .before .before .before .args .l) (c .before .before .before .before .before .args .r) (c .before .before .before .before .before .fits .l .fits) (c .before .before .before .before .before .fits .r .fits) (c .before .before .before .before .signed-of .ensures) (c .before .before .before .signed-of2 .ensures)))
 
--- src/apply.rt:97:1
 returns-3 : tie.Need-returns-3
-returns-3 c = ?
+unfolding rules ruleOf onTwo
+returns-3 c = rw (c .before .before .match .keys3) (c .signed3 .ensures ∙ ap i32Result (c .before .mul-i32 .ensures ∙ on-signed (λ a b. checkedI32 (a *ℤ b)) (c .before .before .before .before .before .args .l) (c .before .before .before .before .before .args .r) (c .before .before .before .before .before .fits .l .fits) (c .before .before .before .before .before .fits .r .fits) (c .before .before .before .before .signed-of .ensures) (c .before .before .before .signed-of2 .ensures)))
 
--- src/apply.rt:97:1
 returns-4 : tie.Need-returns-4
-returns-4 c = ?
+unfolding rules ruleOf onTwo
+returns-4 c = rw (c .before .before .match .keys4) (c .signed4 .ensures ∙ ap i32Result (c .before .div-i32 .ensures ∙ on-signed (dividedI32) (c .before .before .before .before .before .args .l) (c .before .before .before .before .before .args .r) (c .before .before .before .before .before .fits .l .fits) (c .before .before .before .before .before .fits .r .fits) (c .before .before .before .before .signed-of .ensures) (c .before .before .before .signed-of2 .ensures)))
 
--- src/apply.rt:97:1
 returns-5 : tie.Need-returns-5
-returns-5 c = ?
+unfolding rules ruleOf onTwo
+returns-5 c = rw (c .before .match .keys5) (c .truth .ensures)
 
--- src/apply.rt:97:1
 returns-6 : tie.Need-returns-6
-returns-6 c = ?
+unfolding rules ruleOf onTwo
+returns-6 c = rw (c .before .match .keys6) (c .truth2 .ensures ∙ on-signed (λ a b. boolResult (ltZ a b)) (c .before .before .before .before .args .l) (c .before .before .before .before .args .r) (c .before .before .before .before .fits .l .fits) (c .before .before .before .before .fits .r .fits) (c .before .before .before .signed-of .ensures) (c .before .before .signed-of2 .ensures))
 
--- src/apply.rt:97:1
 returns-7 : tie.Need-returns-7
-returns-7 c = ?
+unfolding rules ruleOf onTwo
+returns-7 c = rw (c .before .match .keys7) (c .truth3 .ensures ∙ on-signed (λ a b. boolResult (leZ a b)) (c .before .before .before .before .args .l) (c .before .before .before .before .args .r) (c .before .before .before .before .fits .l .fits) (c .before .before .before .before .fits .r .fits) (c .before .before .before .signed-of .ensures) (c .before .before .signed-of2 .ensures))
 
--- src/apply.rt:97:1
 returns-8 : tie.Need-returns-8
-returns-8 c = ?
+unfolding rules ruleOf onTwo
+returns-8 c = rw (c .before .match .keys8) (c .truth4 .ensures ∙ on-signed (λ a b. boolResult (ltZ b a)) (c .before .before .before .before .args .l) (c .before .before .before .before .args .r) (c .before .before .before .before .fits .l .fits) (c .before .before .before .before .fits .r .fits) (c .before .before .before .signed-of .ensures) (c .before .before .signed-of2 .ensures))
 
--- src/apply.rt:97:1
 returns-9 : tie.Need-returns-9
-returns-9 c = ?
+unfolding rules ruleOf onTwo
+returns-9 c = rw (let e : c .before .before .before .before .args .op ≡ 31 = omega (arith, past _ 23 8 (c .before .match .rest) (c .before .before .before .before .pre .0)) in e) (c .truth5 .ensures ∙ on-signed (λ a b. boolResult (leZ b a)) (c .before .before .before .before .args .l) (c .before .before .before .before .args .r) (c .before .before .before .before .fits .l .fits) (c .before .before .before .before .fits .r .fits) (c .before .before .before .signed-of .ensures) (c .before .before .signed-of2 .ensures))
 
 pub i32s-spec : {M : Type 1} → statement M
 i32s-spec =

@@ -1,55 +1,49 @@
+use native.Mathlib.Omega.{arith}
+use mathlib.Core.Path.{_≡_}
+use Rattle.operate.specs.Rule.{onTwo}
+use Rattle.operate.specs.Opcodes.{rules, ruleOf}
+use Rattle.basis.proofs.Ranges.{past}
 use borrow.Author.Needs.{needs}
 use Rattle.operate.proofs.apply.quads.Statement.{statement}
 use Rattle.operate.proofs.apply.quads.Tie as tie
-use Rattle.operate.proofs.apply.quads.Reads as reads
-use Rattle.operate.proofs.apply.quads.Lts as lts
-use Rattle.operate.proofs.apply.inverse.Reads as inverse-reads
-use Rattle.operate.proofs.apply.truth.Reads as truth-reads
-use Rattle.operate.proofs.read.word.Reads as word-reads
 
--- src/apply.rt:80:15
 word-requires : tie.Need-word-requires
 word-requires c κs = search needs
 
--- src/apply.rt:81:15
 word-requires-2 : tie.Need-word-requires-2
 word-requires-2 c κs = search needs
 
--- src/apply.rt:82:29
 inverse-requires : tie.Need-inverse-requires
 inverse-requires c κs = search needs
 
--- src/apply.rt:82:15
 word-requires-3 : tie.Need-word-requires-3
 word-requires-3 c κs = search needs
 
--- src/apply.rt:83:15
 truth-requires : tie.Need-truth-requires
 truth-requires c κs = search needs
 
--- src/apply.rt:84:14
 truth-requires-2 : tie.Need-truth-requires-2
 truth-requires-2 c κs = search needs
 
--- src/apply.rt:75:1
 returns : tie.Need-returns
-returns c = ?
+unfolding rules ruleOf onTwo
+returns c = rw (c .before .match .keys1) (c .word .ensures)
 
--- src/apply.rt:75:1
 returns-2 : tie.Need-returns-2
-returns-2 c = ?
+unfolding rules ruleOf onTwo
+returns-2 c = rw (c .before .match .keys2) (c .word2 .ensures)
 
--- src/apply.rt:75:1
 returns-3 : tie.Need-returns-3
-returns-3 c = ?
+unfolding rules ruleOf onTwo
+returns-3 c = rw (c .before .before .match .keys3, ← c .before .inverse .ensures) (c .word3 .ensures)
 
--- src/apply.rt:75:1
 returns-4 : tie.Need-returns-4
-returns-4 c = ?
+unfolding rules ruleOf onTwo
+returns-4 c = rw (c .before .match .keys4) (c .truth .ensures)
 
--- src/apply.rt:75:1
 returns-5 : tie.Need-returns-5
-returns-5 c = ?
+unfolding rules ruleOf onTwo
+returns-5 c = rw (let e : c .before .before .args .op ≡ 14 = omega (arith, past _ 10 4 (c .before .match .rest) (c .before .before .pre .0)) in e) (c .truth2 .ensures)
 
 pub quads-spec : {M : Type 1} → statement M
 quads-spec =
