@@ -16,7 +16,11 @@ ghost use Rattle.operate.specs.Opcodes.{ruleOf};
 fn truth(b: bool) -> Outcome
     ensures { λ r. ⌜ r ≡ boolResult b ⌝ }
 {
-    if b { read::word(2, 1) } else { read::word(2, 0) }
+    if b {
+        read::word(2, 1)
+    } else {
+        read::word(2, 0)
+    }
 }
 
 fn signed(c: CheckedI32) -> Outcome
@@ -90,7 +94,11 @@ fn bools(op: u8, l: u32, r: u32) -> Outcome
     requires { ⌜ (21 ≤ op) × (op < 23) ⌝ }
     ensures { λ o. ⌜ o ≡ onTwo (ruleOf op) l r ⌝ }
 {
-    if op == 21 { truth(l == r) } else { truth(l != r) }
+    if op == 21 {
+        truth(l == r)
+    } else {
+        truth(l != r)
+    }
 }
 
 // I32Add, I32Sub, I32Mul, I32Div, I32Eq, I32Lt, I32Le, I32Gt, I32Ge.

@@ -59,9 +59,13 @@ pub enum CoreProfileCheck {
 
 impl CoreAdmissionProfile {
     pub const MAX_REGISTERS_BOUND: u16 = 16_384;
+
     pub const MAX_FUNCTIONS_BOUND: u16 = 4_096;
+
     pub const MAX_CALL_DEPTH_BOUND: u16 = 1_024;
+
     pub const MAX_INSTRS_BOUND: u32 = 1_000_000;
+
     pub const MAX_FUEL_BOUND: u64 = 1_000_000_000;
 
     pub fn safe() -> Self

@@ -128,7 +128,7 @@ module _ {a b : ℤ} (fa : SFits w32 a) (fb : SFits w32 b) where
   scaled-is : full (wide a *ℤ pos 65536) ≡ a *ℤ pos 65536
   scaled-is = rw (wide-is fa) (toZ-ofZ (record { sfits = omega (arith, scaled-small) }))
 
-  fx-quotient-fits : SFits w64 (fxQuotient a b)
+  fx-quotient-fits : SFits w64 (quotZ (a *ℤ pos 65536) b)
   fx-quotient-fits = record { sfits = omega (arith, mag-quot (a *ℤ pos 65536) b, scaled-small) }
 
   pub fx-quotient-asks : SFits w64 (quotZ (full (wide a *ℤ pos 65536)) (wide b))

@@ -13,9 +13,12 @@ impl CoreResultDigest {
         let status = result.status;
         let value = result.return_value;
         let fuel_used = result.fuel_used;
-        CoreResultDigest(
-            digest_words(status.number(), value.kind() as u64, value.payload() as u64, fuel_used),
-        )
+        CoreResultDigest(digest_words(
+            status.number(),
+            value.kind() as u64,
+            value.payload() as u64,
+            fuel_used,
+        ))
     }
 }
 

@@ -6,7 +6,9 @@ ghost use mathlib.Core.Path.{_≡_};
 ghost use Rattle.value.specs.Value.{kindOf, payloadOf, wordOf, valueAt, quadValue, boolValue, unitValue};
 
 pub struct TupleRef(pub u32);
+
 pub struct RecordRef(pub u32);
+
 pub struct AdtRef(pub u32);
 
 pub enum CoreValue {

@@ -49,4 +49,4 @@ returns-11 c = simp (ne-eqb _ _ (c .before .before .before .before .before .befo
 
 pub validate-spec : {M : Type 1} → statement M
 validate-spec =
- tie.close (tie.spec returns returns-2 returns-3 returns-4 returns-5 returns-6 returns-7 returns-8 returns-9 returns-10 returns-11)
+    tie.close (tie.spec returns returns-2 returns-3 returns-4 returns-5 returns-6 returns-7 returns-8 returns-9 returns-10 returns-11)
