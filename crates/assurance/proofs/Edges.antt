@@ -1,6 +1,5 @@
 -- Every row of the table holds, by computation. Assumes nothing.
 use mathlib.Core.Path.{refl}
-use Rattle.operate.specs.Rule.{ruleKind}
 use Rattle.operate.specs.Opcodes.{rules, ruleOf}
 use Rattle.operate.specs.Operate.{readAs, readTwo, readDividing, readShortcut, computed}
 use Rattle.assurance.specs.Edges.{Holds, Each, edges}

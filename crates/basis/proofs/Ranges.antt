@@ -12,6 +12,11 @@ abbrev pub Each : (ℕ → Type 0) → ℕ → ℕ → Type 0
 Each P lo zero = Unit {0}
 Each P lo (suc n) = P lo × Each P (suc lo) n
 
+-- the facts of one, side by side
+infixr 40 _&_
+abbrev pub _&_ : {A B : Type 0} → A → B → A × B
+a & b = (a, b)
+
 by-first : (P : ℕ → Type 0) (lo k : ℕ) → Dec (k ≤ lo) → P lo → lo ≤ k → (suc lo ≤ k → P k) → P k
 by-first P lo k (yes h) e p f = let s : lo ≡ k = omega arith in subst P s e
 by-first P lo k (no h) e p f = f (omega arith)

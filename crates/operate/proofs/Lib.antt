@@ -1,3 +1,4 @@
 pub mod Words
 pub mod Rows
 pub mod Operands
+pub mod Values

@@ -5,7 +5,7 @@ use mathlib.Core.Path.{_≡_, refl, sym, ap}
 use mathlib.Core.List.{List}
 use lib.Dec.{T, eqb, eqb→eq}
 use lib.ListN.{List·getD-eq-default}
-use Rattle.basis.proofs.Ranges.{Passes, passes, each}
+use Rattle.basis.proofs.Ranges.{_&_, each, Passes, passes}
 use Rattle.instr.specs.declared.Instr.{Instr}
 use Rattle.operate.specs.declared.Outcome.the-variants.{NoValue}
 use Rattle.operate.specs.Rule.{ruleKind, onOne, onTwo, onLoad}
@@ -26,11 +26,7 @@ pub no-row : (op : ℕ) → 51 ≤ op → nothing ≡ ruleOf op
 unfolding rules ruleOf
 no-row op h = sym (List·getD-eq-default rules nothing h)
 
--- ---- each row by itself, put side by side
-infixr 40 _&_
-abbrev _&_ : {A B : Type 0} → A → B → A × B
-a & b = (a, b)
-
+-- ---- each row by itself
 pub no-one : (op p : ℕ) → 10 ≤ op → op < 15 → NoValue ≡ onOne (ruleOf op) p
 unfolding rules ruleOf onOne
 no-one op p = each (λ k. NoValue ≡ onOne (ruleOf k) p) 10 5 op (refl & refl & refl & refl & refl & tt)

@@ -1,16 +1,14 @@
 -- The words of a kind lie side by side from the kind's first word on. Assumes nothing.
-use Prim.Native.Nat.{ℕ, _+_, _-_, _*_, _/_, _%_, _^_, _≤_, _<_}
-use mathlib.Core.Path.{_≡_, refl, sym, ap, _∙_}
-use mathlib.Core.Bool.{Bool, true, false, _&&_}
+use Prim.Native.Nat.{ℕ, _-_, _*_, _/_, _%_, _^_, _≤_, _<_}
+use mathlib.Core.Path.{_≡_, sym, ap}
+use mathlib.Core.Bool.{true, false}
 use mathlib.Core.List.{List}
 use native.Mathlib.Omega.{arith}
 use native.Mathlib.Decide.{ℕ-discrete}
-use lib.Dec.{ltb, leb, eqb}
 use lib.ListN.{length, getD}
 use borrow.Author.Tests.{lt-ltb, le-ltb, le-leb, lt-leb, eq-eqb, ne-eqb}
 use Rattle.runtime.specs.declared.CoreTrap.the-variants.{InvalidRegister, TypeMismatch}
 use Rattle.value.specs.Value.{payloads}
-use Rattle.operate.specs.declared.read.Read.{Read}
 use Rattle.operate.specs.declared.read.Read.the-variants.{Payload, Fault}
 use Rattle.operate.specs.Operate.{isOf, readAs}
 

@@ -1,3 +1,4 @@
 pub mod Rule
 pub mod Opcodes
 pub mod Operate
+pub mod Values

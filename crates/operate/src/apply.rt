@@ -7,7 +7,6 @@ use value::checked::CheckedU32;
 use value::fx::CheckedFx;
 use value::fx::Fx;
 ghost use mathlib.Core.Path.{_≡_};
-ghost use mathlib.Core.Bool.{Bool};
 ghost use Prim.Native.Nat.{_≤_, _<_};
 ghost use Rattle.quad.specs.Quad.{inverseBits};
 ghost use Rattle.operate.specs.Rule.{onOne, onTwo, boolResult, i32Result, u32Result, fxResult};

@@ -1,6 +1,5 @@
 // Source document 002, as far as the executor reaches it: the four states of a quad.
 ghost use mathlib.Core.Path.{_≡_};
-ghost use mathlib.Core.Bool.{Bool};
 ghost use Prim.Native.Nat.{_<_};
 ghost use lib.Bits.{bitOr, bitAnd};
 ghost use Rattle.quad.specs.Quad.{quadBits, stateNumbers, bitsNumbers, inverseBits, isKnown, isConflict, isNull};

@@ -3,7 +3,6 @@
 // Rust's `Result` is an enum for each kind of answer, its `&'static str` for a field the field's number from 1, and
 // `FuelMeter::consume(&mut self)` a charge that takes the meter by value and hands it back.
 ghost use mathlib.Core.Path.{_≡_};
-ghost use mathlib.Core.Bool.{Bool};
 ghost use lib.Dec.{eqb};
 ghost use Rattle.runtime.specs.Trap.{trapCode};
 ghost use Rattle.runtime.specs.Profile.{profileNumbers, profileFault, safeProfile};

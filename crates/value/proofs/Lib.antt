@@ -1,2 +1,3 @@
-pub mod Wide
 pub mod Signs
+pub mod Wide
+pub mod Words

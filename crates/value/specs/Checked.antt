@@ -1,5 +1,5 @@
 -- Numbers of 32 bits. Results are numbers of ℤ; one that the type cannot hold traps IntegerOverflow.
-use mathlib.Core.Bool.{Bool, true, false, _&&_}
+use mathlib.Core.Bool.{Bool, false, _&&_}
 use Prim.Native.Nat.{ℕ, suc, _-_, _^_}
 use lib.Dec.{ltb, eqb}
 use lib.IntN.{ℤ, pos, negsuc, negℤ}

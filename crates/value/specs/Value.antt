@@ -1,7 +1,9 @@
 -- Values and the words that hold them in a register: kind times 2^32 plus a payload of 32 bits.
 use mathlib.Core.Bool.{true, false}
-use Prim.Native.Nat.{ℕ, _+_, _*_, _/_, _%_, _^_}
-use lib.Dec.{ltb, eqb}
+use mathlib.Core.Path.{_≡_}
+use Prim.Native.Nat.{ℕ, _+_, _*_, _/_, _%_, _^_, _<_}
+use lib.Dec.{eqb}
+use lib.Signed.{mag}
 use Rattle.basis.specs.Choice.{pick}
 use Rattle.quad.specs.declared.QuadState.the-variants.{N, F, T, S}
 use Rattle.quad.specs.Quad.{quadBits}
@@ -72,6 +74,24 @@ payloadOf (Adt a) = a .0
 
 unfoldable pub wordOf : CoreValue → ℕ
 wordOf v = register (kindOf v) (payloadOf v)
+
+-- the values that the engine's types hold: of all numbers, those of 32 bits
+abbrev pub Held : CoreValue → Type 0
+Held Unit = Prim.Unit {0}
+Held (Quad q) = Prim.Unit {0}
+Held (Bool b) = Prim.Unit {0}
+Held (I32 v) = mag v < 2 ^ 31
+Held (U32 v) = v < 2 ^ 32
+Held (Fx v) = mag (v .0) < 2 ^ 31
+Held (Tuple t) = t .0 < 2 ^ 32
+Held (Record r) = r .0 < 2 ^ 32
+Held (Adt a) = a .0 < 2 ^ 32
+
+-- a word that is some value's
+pub record HoldsValue (word : ℕ) : Type 0 where
+  pub value : CoreValue
+  pub held : Held value
+  pub is : wordOf value ≡ word
 
 -- ---- the way back. A word of another kind, or with a payload that its kind does not have, holds no value
 abbrev pub unitValue : ℕ → WordFound

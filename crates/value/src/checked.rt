@@ -2,7 +2,6 @@
 use runtime::CoreTrap;
 ghost use mathlib.Core.Path.{_≡_};
 ghost use lib.IntN.{ℤ, pos, _+ℤ_, _-ℤ_, _*ℤ_};
-ghost use lib.Signed.{quotZ};
 ghost use Rattle.value.specs.Checked.{signed, payload, checkedI32, checkedU32, dividedI32, dividedU32};
 
 // Rust's `Option<i32>` with the trap that stands for `None`.

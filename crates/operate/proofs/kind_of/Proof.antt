@@ -1,5 +1,4 @@
 use native.Mathlib.Omega.{arith}
-use Rattle.basis.proofs.Ranges.{Passes}
 use Rattle.operate.proofs.Rows.{hasKind, kind-rows}
 use Rattle.operate.specs.Rule.{ruleKind}
 use Rattle.operate.specs.Opcodes.{rules, ruleOf}

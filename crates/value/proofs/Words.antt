@@ -1,0 +1,160 @@
+-- Values and register words, there and back: each value that the types hold has a word of its own, and `valueAt` finds it again;
+-- a word at which `valueAt` finds a value is that value's word. Assumes nothing.
+use Prim.Native.Nat.{ℕ, _/_, _%_, _^_, _≤_, _<_}
+use mathlib.Core.Bool.{true, false}
+use mathlib.Core.Path.{_≡_, refl, sym, ap, ap₂, _∙_}
+use native.Mathlib.Omega.{arith}
+use native.Mathlib.Nat.{div-add-mod'}
+use native.Mathlib.Decide.{ℕ-discrete, decLt}
+use borrow.Author.Tests.{eq-eqb, ne-eqb}
+use Rattle.basis.proofs.Ranges.{_&_, each}
+use Rattle.quad.specs.declared.QuadState.the-variants.{N, F, T, S}
+use Rattle.value.specs.declared.word.CoreValue.{CoreValue}
+use Rattle.value.specs.declared.word.CoreValue.the-variants.{Unit, Quad, Bool, I32, U32, Fx, Tuple, Record, Adt}
+use Rattle.value.specs.declared.word.WordFound.the-variants.{Value, NoValue}
+use Rattle.value.specs.Checked.{signed, payload}
+use Rattle.value.specs.Value.{payloads, register, wordOf, Held, HoldsValue, valueOfKind, valueAt, unitValue, quadValue, boolValue}
+use Rattle.value.proofs.Signs.{signed-fits, signed-payload, payload-signed, payload-small}
+
+-- ---- a word's two halves
+kind-half : (k p : ℕ) → p < 2 ^ 32 → register k p / 2 ^ 32 ≡ k
+kind-half k p h = omega arith
+
+payload-half : (k p : ℕ) → p < 2 ^ 32 → register k p % 2 ^ 32 ≡ p
+payload-half k p h = omega arith
+
+halves : (k p : ℕ) → p < 2 ^ 32 → valueAt (register k p) ≡ valueOfKind k p
+unfolding valueAt
+halves k p h = ap₂ valueOfKind (kind-half k p h) (payload-half k p h)
+
+-- ---- there
+pub found : (v : CoreValue) → Held v → valueAt (wordOf v) ≡ Value v
+unfolding wordOf
+found Unit h = halves 0 0 (omega arith)
+found (Quad N) h = halves 1 0 (omega arith)
+found (Quad F) h = halves 1 1 (omega arith)
+found (Quad T) h = halves 1 2 (omega arith)
+found (Quad S) h = halves 1 3 (omega arith)
+found (Bool true) h = halves 2 1 (omega arith)
+found (Bool false) h = halves 2 0 (omega arith)
+found (I32 v) h = halves 3 (payload v) (payload-small v h) ∙ ap (λ z. Value (I32 z)) (signed-payload v h)
+found (U32 v) h = halves 4 v h
+found (Fx v) h = halves 5 (payload (v .0)) (payload-small (v .0) h) ∙ ap (λ z. Value (Fx (record { 0 = z }))) (signed-payload (v .0) h)
+found (Tuple t) h = halves 6 (t .0) h
+found (Record r) h = halves 7 (r .0) h
+found (Adt a) h = halves 8 (a .0) h
+
+-- two values have one word only where they are one
+pub word-unique : (v u : CoreValue) → Held v → Held u → wordOf v ≡ wordOf u → v ≡ u
+word-unique v u h k e = let q : Value v ≡ Value u = sym (found v h) ∙ ap valueAt e ∙ found u k in cc
+
+-- ---- and back
+same : {v u : CoreValue} {n : ℕ} → Value u ≡ Value v → wordOf u ≡ n → wordOf v ≡ n
+same {v} {u} q e = let s : v ≡ u = cc in rw s e
+
+none : {v : CoreValue} {n : ℕ} → NoValue ≡ Value v → wordOf v ≡ n
+none {v} q = absurd (let z : _≡_ {A = ℕ} 0 1 = cc in omega arith)
+
+module _ (v : CoreValue) (p : ℕ) where
+  unit-back : unitValue p ≡ Value v → wordOf v ≡ register 0 p
+  unfolding wordOf
+  unit-back q = by (ℕ-discrete p 0)
+    where
+      by : Dec (p ≡ 0) → wordOf v ≡ register 0 p
+      by (yes e) = same {u = Unit} (rw (eq-eqb p 0 e) at q) (rw e)
+      by (no f) = none (rw (ne-eqb p 0 f) at q)
+
+  bool-back : boolValue p ≡ Value v → wordOf v ≡ register 2 p
+  unfolding wordOf
+  bool-back q = by (ℕ-discrete p 0) (ℕ-discrete p 1)
+    where
+      by : Dec (p ≡ 0) → Dec (p ≡ 1) → wordOf v ≡ register 2 p
+      by (yes e) d = same {u = Bool false} (rw (eq-eqb p 0 e) at q) (rw e)
+      by (no f) (yes e) = same {u = Bool true} (rw (ne-eqb p 0 f, eq-eqb p 1 e) at q) (rw e)
+      by (no f) (no g) = none (rw (ne-eqb p 0 f, ne-eqb p 1 g) at q)
+
+  quad-back : quadValue p ≡ Value v → wordOf v ≡ register 1 p
+  unfolding wordOf
+  quad-back q = by (ℕ-discrete p 0) (ℕ-discrete p 1) (ℕ-discrete p 2) (ℕ-discrete p 3)
+    where
+      by : Dec (p ≡ 0) → Dec (p ≡ 1) → Dec (p ≡ 2) → Dec (p ≡ 3) → wordOf v ≡ register 1 p
+      by (yes e) b c d = same {u = Quad N} (rw (eq-eqb p 0 e) at q) (rw e)
+      by (no f) (yes e) c d = same {u = Quad F} (rw (ne-eqb p 0 f, eq-eqb p 1 e) at q) (rw e)
+      by (no f) (no g) (yes e) d = same {u = Quad T} (rw (ne-eqb p 0 f, ne-eqb p 1 g, eq-eqb p 2 e) at q) (rw e)
+      by (no f) (no g) (no h) (yes e) = same {u = Quad S} (rw (ne-eqb p 0 f, ne-eqb p 1 g, ne-eqb p 2 h, eq-eqb p 3 e) at q) (rw e)
+      by (no f) (no g) (no h) (no k) = none (rw (ne-eqb p 0 f, ne-eqb p 1 g, ne-eqb p 2 h, ne-eqb p 3 k) at q)
+
+  abbrev Back : ℕ → Type 0
+  Back k = valueOfKind k p ≡ Value v → wordOf v ≡ register k p
+
+  small-kinds : (k : ℕ) → p < 2 ^ 32 → 0 ≤ k → k < 9 → Back k
+  unfolding wordOf
+  small-kinds k h =
+      each Back 0 9 k
+      (unit-back
+      & quad-back
+      & bool-back
+      & (λ q. same {u = I32 (signed p)} q (ap (register 3) (payload-signed p h)))
+      & (λ q. same {u = U32 p} q refl)
+      & (λ q. same {u = Fx (record { 0 = signed p })} q (ap (register 5) (payload-signed p h)))
+      & (λ q. same {u = Tuple (record { 0 = p })} q refl)
+      & (λ q. same {u = Record (record { 0 = p })} q refl)
+      & (λ q. same {u = Adt (record { 0 = p })} q refl)
+      & tt)
+
+  large-kinds : (k : ℕ) → 9 ≤ k → Back k
+  large-kinds k h q =
+      none
+      (rw
+      (ne-eqb k 0 (λ e. omega arith), ne-eqb k 1 (λ e. omega arith), ne-eqb k 2 (λ e. omega arith), ne-eqb k 3 (λ e. omega arith), ne-eqb k 4 (λ e. omega arith), ne-eqb k 5 (λ e. omega arith), ne-eqb k 6 (λ e. omega arith), ne-eqb k 7 (λ e. omega arith), ne-eqb k 8 (λ e. omega arith))
+      at q)
+
+  back-of : (k : ℕ) → Dec (k < 9) → p < 2 ^ 32 → Back k
+  back-of k (yes h) l = small-kinds k l (omega arith) h
+  back-of k (no h) l = large-kinds k (omega arith)
+
+pub held-by : (word : ℕ) (v : CoreValue) → valueAt word ≡ Value v → wordOf v ≡ word
+unfolding valueAt
+held-by word v q =
+    back-of v (word % 2 ^ 32) (word / 2 ^ 32) (decLt (word / 2 ^ 32) 9) (omega arith) q ∙ div-add-mod' word (2 ^ 32)
+
+-- ---- the words that hold values are those of the kinds, each with a payload that it has
+abbrev Filled : ℕ → Type 0
+Filled k = (p : ℕ) → p < payloads k → HoldsValue (register k p)
+
+unit-filled : Filled 0
+unfolding wordOf
+unit-filled p h = record { value = Unit; held = tt; is = let e : 0 ≡ p = omega arith in ap (register 0) e }
+
+quad-filled : Filled 1
+unfolding wordOf
+quad-filled p h = by (ℕ-discrete p 0) (ℕ-discrete p 1) (ℕ-discrete p 2)
+  where
+    by : Dec (p ≡ 0) → Dec (p ≡ 1) → Dec (p ≡ 2) → HoldsValue (register 1 p)
+    by (yes e) b c = record { value = Quad N; held = tt; is = ap (register 1) (sym e) }
+    by (no f) (yes e) c = record { value = Quad F; held = tt; is = ap (register 1) (sym e) }
+    by (no f) (no g) (yes e) = record { value = Quad T; held = tt; is = ap (register 1) (sym e) }
+    by (no f) (no g) (no k) = record { value = Quad S; held = tt; is = let e : 3 ≡ p = omega arith in ap (register 1) e }
+
+bool-filled : Filled 2
+unfolding wordOf
+bool-filled p h = by (ℕ-discrete p 0)
+  where
+    by : Dec (p ≡ 0) → HoldsValue (register 2 p)
+    by (yes e) = record { value = Bool false; held = tt; is = ap (register 2) (sym e) }
+    by (no f) = record { value = Bool true; held = tt; is = let e : 1 ≡ p = omega arith in ap (register 2) e }
+
+pub filled : (k : ℕ) → 0 ≤ k → k < 9 → Filled k
+unfolding wordOf
+filled k =
+    each Filled 0 9 k
+    (unit-filled
+    & quad-filled
+    & bool-filled
+    & (λ p h. record { value = I32 (signed p); held = signed-fits p h .sfits; is = ap (register 3) (payload-signed p h) })
+    & (λ p h. record { value = U32 p; held = h; is = refl })
+    & (λ p h. record { value = Fx (record { 0 = signed p }); held = signed-fits p h .sfits; is = ap (register 5) (payload-signed p h) })
+    & (λ p h. record { value = Tuple (record { 0 = p }); held = h; is = refl })
+    & (λ p h. record { value = Record (record { 0 = p }); held = h; is = refl })
+    & (λ p h. record { value = Adt (record { 0 = p }); held = h; is = refl })
+    & tt)
