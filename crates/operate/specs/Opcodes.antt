@@ -73,9 +73,11 @@ QIsNull = one quadKind (λ q. boolResult (isNull q))
 abbrev pub BoolNot : Rule
 BoolNot = one boolKind (λ b. boolResult (eqb b 0))
 
+-- a false lhs is the answer
 abbrev pub BoolAnd : Rule
 BoolAnd = shortcut 0
 
+-- a true lhs is the answer
 abbrev pub BoolOr : Rule
 BoolOr = shortcut 1
 
@@ -85,7 +87,7 @@ BoolEq = two boolKind equal
 abbrev pub BoolNe : Rule
 BoolNe = two boolKind unequal
 
--- ---- signed numbers
+-- ---- signed numbers: a division reads rhs and tests it for zero before it reads lhs
 abbrev pub I32Add : Rule
 I32Add = two i32Kind (λ l r. i32Result (checkedI32 (signed l +ℤ signed r)))
 
@@ -113,7 +115,7 @@ I32Gt = two i32Kind (λ l r. boolResult (ltZ (signed r) (signed l)))
 abbrev pub I32Ge : Rule
 I32Ge = two i32Kind (λ l r. boolResult (leZ (signed r) (signed l)))
 
--- ---- unsigned numbers
+-- ---- unsigned numbers: the same order
 abbrev pub U32Add : Rule
 U32Add = two u32Kind (λ l r. u32Result (checkedU32 (pos l +ℤ pos r)))
 

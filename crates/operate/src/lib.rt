@@ -10,7 +10,7 @@ ghost use Rattle.operate.specs.Rule.{ruleKind, onOne, onTwo, onLoad};
 ghost use Rattle.operate.specs.Opcodes.{ruleOf};
 ghost use Rattle.operate.specs.Operate.{readOne, readTwo, readDividing, readShortcut, readAny, operated};
 
-pub mod apply;
+mod apply;
 pub mod read;
 
 use read::Read;
@@ -23,9 +23,9 @@ pub enum Outcome {
 }
 
 // The type of an opcode's operands, by its number.
-fn kind_of(op: u8) -> u64
+fn kind_of(op: u8) -> u8
     requires { ⌜ (9 ≤ op) × (op < 50) ⌝ }
-    ensures { λ r. ⌜ (r ≡ ruleKind (ruleOf op)) × (r < 9) ⌝ }
+    ensures { λ r. ⌜ r ≡ ruleKind (ruleOf op) ⌝ }
 {
     match op {
         0..=17 => 1,

@@ -2,7 +2,7 @@
 use crate::Outcome;
 use runtime::CoreTrap;
 ghost use mathlib.Core.Path.{_≡_};
-ghost use Prim.Native.Nat.{_≤_, _<_, _^_};
+ghost use Prim.Native.Nat.{_≤_, _^_};
 ghost use Rattle.value.specs.Value.{payloads};
 ghost use Rattle.operate.specs.Rule.{valued};
 ghost use Rattle.operate.specs.Operate.{readAs};
@@ -13,7 +13,7 @@ pub enum Read {
 }
 
 // How many payloads a kind has.
-fn payloads_of(kind: u64) -> u64
+fn payloads_of(kind: u8) -> u64
     ensures { λ r. ⌜ (r ≡ payloads kind) × (r ≤ 2 ^ 32) ⌝ }
 {
     match kind {
@@ -25,15 +25,14 @@ fn payloads_of(kind: u64) -> u64
 }
 
 // A register read as a kind. The words of a kind lie side by side, so one test from the first of them decides.
-pub fn operand(win: &[u64], r: usize, kind: u64) -> Read
-    requires { ⌜ kind < 9 ⌝ }
+pub fn operand(win: &[u64], r: usize, kind: u8) -> Read
     ensures { λ q. ⌜ q ≡ readAs kind (now (win .entry)) r ⌝ }
 {
     if win.len() <= r {
         return Read::Fault(CoreTrap::InvalidRegister);
     }
     let word = win[r];
-    let first = kind * 0x1_0000_0000;
+    let first = (kind as u64) * 0x1_0000_0000;
     if word < first {
         return Read::Fault(CoreTrap::TypeMismatch);
     }
@@ -47,9 +46,8 @@ pub fn operand(win: &[u64], r: usize, kind: u64) -> Read
 }
 
 // The word of a kind and a payload.
-pub fn word(kind: u64, payload: u32) -> Outcome
-    requires { ⌜ kind < 9 ⌝ }
+pub fn word(kind: u8, payload: u32) -> Outcome
     ensures { λ r. ⌜ r ≡ valued kind payload ⌝ }
 {
-    Outcome::Value(kind * 0x1_0000_0000 + (payload as u64))
+    Outcome::Value((kind as u64) * 0x1_0000_0000 + (payload as u64))
 }

@@ -75,7 +75,8 @@ payloadOf (Adt a) = a .0
 unfoldable pub wordOf : CoreValue → ℕ
 wordOf v = register (kindOf v) (payloadOf v)
 
--- the values that the engine's types hold: of all numbers, those of 32 bits
+-- the values that the engine's types hold: of all numbers, those of 32 bits. `mag z < 2 ^ 31` says that z is an i32: mag is n
+-- both for n and for -(n + 1)
 abbrev pub Held : CoreValue → Type 0
 Held Unit = Prim.Unit {0}
 Held (Quad q) = Prim.Unit {0}

@@ -66,7 +66,7 @@ const FX_EDGES: [i32; 15] = [
     i32::MAX,
 ];
 
-const RANDOM_PAIRS: u32 = 3_000;
+const RANDOM_PAIRS: usize = 3_000;
 const SEED: u64 = 0x6b6e_6974_0000_0001;
 
 /// Writes the list, and to `notes` how long it is.
@@ -186,10 +186,15 @@ fn add_missing(list: &mut List, opcode: u8) {
     list.add_pair(opcode, None, None);
 }
 
-/// Each opcode in its turn, so that the pairs are spread evenly.
+/// Each opcode in its turn, until the list has as many pairs more as are
+/// wanted: those of Quad and Bool are soon all there, the others never.
 fn add_random(list: &mut List) {
     let mut random = SplitMix64(SEED);
-    for opcode in (9..=50).cycle().take(RANDOM_PAIRS as usize) {
+    let wanted = list.cases.len() + RANDOM_PAIRS;
+    for opcode in (9..=50).cycle() {
+        if list.cases.len() == wanted {
+            return;
+        }
         let lhs = random.operand(opcode);
         let rhs = random.operand(opcode);
         list.add_pair(opcode, Some(lhs), Some(rhs));

@@ -9,7 +9,7 @@ kind-of-requires : tie.Need-kind-of-requires
 kind-of-requires c κs = search needs
 
 operand-requires : tie.Need-operand-requires
-operand-requires c κs = c .kind-of .ensures .1
+operand-requires c κs = search needs
 
 enum-known-t : tie.Need-enum-known-t
 enum-known-t c = search needs
@@ -19,10 +19,10 @@ enum-known-r c = search needs
 
 returns : tie.Need-returns
 unfolding readDividing
-returns c = rw (read-is _ _ (c .before .before .before .before .before .kind-of .ensures .0) (c .before .before .before .before .operand .ensures) (c .before .before .r .given .1), eq-eqb _ _ (c .if1 .taken))
+returns c = rw (read-is _ _ (c .before .before .before .before .before .kind-of .ensures) (c .before .before .before .before .operand .ensures) (c .before .before .r .given .1), eq-eqb _ _ (c .if1 .taken))
 
 operand-requires-2 : tie.Need-operand-requires-2
-operand-requires-2 c κs = c .before .before .before .before .before .kind-of .ensures .1
+operand-requires-2 c κs = search needs
 
 enum-known-t-2 : tie.Need-enum-known-t-2
 enum-known-t-2 c = search needs
@@ -35,15 +35,15 @@ two-requires c κs = search needs
 
 returns-2 : tie.Need-returns-2
 unfolding readDividing
-returns-2 c = rw (read-is _ _ (c .before .before .before .before .kind-of .ensures .0) (c .before .before .before .operand .ensures) (c .before .t .given .1))
+returns-2 c = rw (read-is _ _ (c .before .before .before .before .kind-of .ensures) (c .before .before .before .operand .ensures) (c .before .t .given .1))
 
 returns-3 : tie.Need-returns-3
 unfolding readDividing
-returns-3 c = rw (read-is _ _ (c .before .before .before .before .before .before .before .before .before .kind-of .ensures .0) (c .before .before .before .before .before .before .before .before .operand .ensures) (c .before .before .before .before .before .before .r .given .1), ne-eqb _ _ (c .before .before .before .before .if1 .left), read-is _ _ (c .before .before .before .before .before .before .before .before .before .kind-of .ensures .0) (c .before .before .before .operand2 .ensures) (c .before .t2 .given .1))
+returns-3 c = rw (read-is _ _ (c .before .before .before .before .before .before .before .before .before .kind-of .ensures) (c .before .before .before .before .before .before .before .before .operand .ensures) (c .before .before .before .before .before .before .r .given .1), ne-eqb _ _ (c .before .before .before .before .if1 .left), read-is _ _ (c .before .before .before .before .before .before .before .before .before .kind-of .ensures) (c .before .before .before .operand2 .ensures) (c .before .t2 .given .1))
 
 returns-4 : tie.Need-returns-4
 unfolding readDividing
-returns-4 c = rw (read-is _ _ (c .before .before .before .before .before .before .before .before .before .before .kind-of .ensures .0) (c .before .before .before .before .before .before .before .before .before .operand .ensures) (c .before .before .before .before .before .before .before .r .given .1), ne-eqb _ _ (c .before .before .before .before .before .if1 .left), read-is _ _ (c .before .before .before .before .before .before .before .before .before .before .kind-of .ensures .0) (c .before .before .before .before .operand2 .ensures) (c .before .before .l .given .1)) (c .two .ensures)
+returns-4 c = rw (read-is _ _ (c .before .before .before .before .before .before .before .before .before .before .kind-of .ensures) (c .before .before .before .before .before .before .before .before .before .operand .ensures) (c .before .before .before .before .before .before .before .r .given .1), ne-eqb _ _ (c .before .before .before .before .before .if1 .left), read-is _ _ (c .before .before .before .before .before .before .before .before .before .before .kind-of .ensures) (c .before .before .before .before .operand2 .ensures) (c .before .before .l .given .1)) (c .two .ensures)
 
 pub dividing-spec : {M : Type 1} → statement M
 dividing-spec =

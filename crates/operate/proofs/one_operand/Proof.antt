@@ -8,7 +8,7 @@ kind-of-requires : tie.Need-kind-of-requires
 kind-of-requires c κs = search needs
 
 operand-requires : tie.Need-operand-requires
-operand-requires c κs = c .kind-of .ensures .1
+operand-requires c κs = search needs
 
 enum-known-t : tie.Need-enum-known-t
 enum-known-t c = search needs
@@ -21,11 +21,11 @@ one-requires c κs = search needs
 
 returns : tie.Need-returns
 unfolding readOne
-returns c = rw (read-is _ _ (c .before .before .before .before .kind-of .ensures .0) (c .before .before .before .operand .ensures) (c .before .t .given .1))
+returns c = rw (read-is _ _ (c .before .before .before .before .kind-of .ensures) (c .before .before .before .operand .ensures) (c .before .t .given .1))
 
 returns-2 : tie.Need-returns-2
 unfolding readOne
-returns-2 c = rw (read-is _ _ (c .before .before .before .before .before .kind-of .ensures .0) (c .before .before .before .before .operand .ensures) (c .before .before .p .given .1)) (c .one .ensures)
+returns-2 c = rw (read-is _ _ (c .before .before .before .before .before .kind-of .ensures) (c .before .before .before .before .operand .ensures) (c .before .before .p .given .1)) (c .one .ensures)
 
 pub one-operand-spec : {M : Type 1} → statement M
 one-operand-spec =
