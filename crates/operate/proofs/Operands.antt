@@ -18,8 +18,3 @@ read-is win r e p q = ap (λ (n : ℕ). readAs n win r) (sym e) ∙ sym p ∙ q
 pub on-signed : {A : Type 0} (f : ℤ → ℤ → A) (l r : ℕ) {x y : ℤ} → l < 2 ^ 32 → r < 2 ^ 32 → x ≡ signed l → y ≡ signed r
     → f (toZ w32 (ofZ w32 x)) (toZ w32 (ofZ w32 y)) ≡ f (signed l) (signed r)
 on-signed f l r h k p q = ap₂ f (read-back l h p) (read-back r k q)
-
--- the same where `from_raw` took them on
-pub on-raw : {A : Type 0} (f : ℤ → ℤ → A) (l r : ℕ) {x y a b : ℤ} → l < 2 ^ 32 → r < 2 ^ 32 → x ≡ signed l → y ≡ signed r
-    → a ≡ toZ w32 (ofZ w32 x) → b ≡ toZ w32 (ofZ w32 y) → f a b ≡ f (signed l) (signed r)
-on-raw f l r h k p q u v = ap₂ f u v ∙ on-signed f l r h k p q

@@ -8,7 +8,7 @@ use lib.ListN.{List·getD-eq-default}
 use Rattle.basis.proofs.Ranges.{_&_, each, Passes, passes}
 use Rattle.instr.specs.declared.Instr.{Instr}
 use Rattle.operate.specs.declared.Outcome.the-variants.{NoValue}
-use Rattle.operate.specs.Rule.{ruleKind, onOne, onTwo, onLoad}
+use Rattle.operate.specs.Parts.{ruleKind, onOne, onTwo, onLoad}
 use Rattle.operate.specs.Rule.Rule.{nothing}
 use Rattle.operate.specs.Opcodes.{rules, ruleOf}
 use Rattle.operate.specs.Operate.{readOne, readTwo, computed}

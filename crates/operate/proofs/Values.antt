@@ -1,21 +1,21 @@
 -- What the rules compute from values is a value. Assumes nothing.
 use Prim.Native.Nat.{ℕ, _/_, _%_, _^_, _≤_, _<_}
-use mathlib.Core.Bool.{Bool, true, false, _&&_, not}
+use mathlib.Core.Bool.{Bool, true, false, _&&_}
 use mathlib.Core.Path.{_≡_, refl, subst}
 use mathlib.Core.List.{List}
 use native.Mathlib.Omega.{arith}
 use native.Mathlib.Decide.{decLt}
-use lib.Bits.{bitOr, bitAnd, or-lt, and-lt}
+use lib.Bits.{or-lt, and-lt}
 use lib.Dec.{ltb, leb, eqb}
 use lib.IntN.{ℤ, pos, negsuc, _+ℤ_, _-ℤ_, _*ℤ_}
 use lib.ListN.{length, getD}
-use lib.Signed.{mag, ltZ, leZ, quotZ}
+use lib.Signed.{mag, quotZ}
 use borrow.Author.Tests.{ltb-true, leb-true, leb-false}
 use Rattle.basis.specs.Choice.{pick}
 use Rattle.basis.proofs.Ranges.{_&_, each}
 use Rattle.runtime.specs.declared.CoreTrap.{CoreTrap}
 use Rattle.runtime.specs.declared.CoreTrap.the-variants.{InvalidRegister, TypeMismatch, DivisionByZero}
-use Rattle.quad.specs.Quad.{inverseBits, isKnown, isConflict, isNull}
+use Rattle.quad.specs.Quad.{inverseBits}
 use Rattle.value.specs.declared.word.CoreValue.the-variants as value
 use Rattle.value.specs.Checked.{signed, payload, between, isZero, checkedI32, checkedU32, dividedI32, dividedU32}
 use Rattle.value.specs.Fixed.{fxOf, fxProduct, fxQuotient, fxDivided}
@@ -50,6 +50,7 @@ kind-fine : (k p : ℕ) → k < 9 → p < payloads k → Fine (valued k p)
 kind-fine k p h l = word-fine (filled k (omega arith) h p l)
 
 bool-fine : (b : Bool) → Fine (boolResult b)
+unfolding boolResult
 bool-fine true = kind-fine 2 1 (omega arith) (omega arith)
 bool-fine false = kind-fine 2 0 (omega arith) (omega arith)
 
@@ -183,8 +184,12 @@ module _ (i : Instr) (win : List ℕ) (held : HoldValues win) where
   one-bool : {A : Type 0} (k : ℕ) (f : ℕ → Bool) → A → Fine (readOne k (λ p. boolResult (f p)) win (i .b))
   one-bool k f v = one-fine k win (λ p. boolResult (f p)) (i .b) (λ p h. bool-fine (f p))
 
+  two-any : {A : Type 0} (k : ℕ) (f : ℕ → ℕ → Outcome) → ((l r : ℕ) → l < payloads k → r < payloads k → Fine (f l r)) → A
+      → Fine (readTwo k f win (i .b) (i .c))
+  two-any k f g v = two-fine k win f (i .b) (i .c) g
+
   two-bool : {A : Type 0} (k : ℕ) (f : ℕ → ℕ → Bool) → A → Fine (readTwo k (λ l r. boolResult (f l r)) win (i .b) (i .c))
-  two-bool k f v = two-fine k win (λ l r. boolResult (f l r)) (i .b) (i .c) (λ l r h j. bool-fine (f l r))
+  two-bool k f = two-any k (λ l r. boolResult (f l r)) (λ l r h j. bool-fine (f l r))
 
   rows-fine : (op : ℕ) → 3 ≤ op → op < 51 → Row op
   unfolding rules ruleOf computed
@@ -196,47 +201,47 @@ module _ (i : Instr) (win : List ℕ) (held : HoldValues win) where
       & (λ v. kind-fine 3 (i .w) (omega arith) (v .wide))
       & (λ v. kind-fine 4 (i .w) (omega arith) (v .wide))
       & (λ v. kind-fine 5 (i .w) (omega arith) (v .wide))
-      & (λ v. one-fine 1 win (λ q. valued 1 (inverseBits q)) (i .b) (λ q h. quad-fine (inverseBits q) (inverse-small q h)))
-      & (λ v. two-fine 1 win (λ l r. valued 1 (bitOr l r)) (i .b) (i .c) (λ l r h j. quad-fine (bitOr l r) (or-lt 2 l r h j)))
-      & (λ v. two-fine 1 win (λ l r. valued 1 (bitAnd l r)) (i .b) (i .c) (λ l r h j. quad-fine (bitAnd l r) (and-lt 2 l r h j)))
-      & (λ v. two-fine 1 win (λ l r. valued 1 (bitOr (inverseBits l) r)) (i .b) (i .c) (λ l r h j. quad-fine (bitOr (inverseBits l) r) (or-lt 2 (inverseBits l) r (inverse-small l h) j)))
-      & two-bool 1 eqb
-      & two-bool 1 (λ l r. not (eqb l r))
-      & one-bool 1 isKnown
-      & one-bool 1 isConflict
-      & one-bool 1 isNull
-      & one-bool 2 (λ b. eqb b 0)
+      & (λ v. one-fine 1 win _ (i .b) (λ q h. quad-fine _ (inverse-small q h)))
+      & two-any 1 _ (λ l r h j. quad-fine _ (or-lt 2 l r h j))
+      & two-any 1 _ (λ l r h j. quad-fine _ (and-lt 2 l r h j))
+      & two-any 1 _ (λ l r h j. quad-fine _ (or-lt 2 (inverseBits l) r (inverse-small l h) j))
+      & two-bool 1 _
+      & two-bool 1 _
+      & one-bool 1 _
+      & one-bool 1 _
+      & one-bool 1 _
+      & one-bool 2 _
       & (λ v. shortcut-fine 0 win (i .b) (i .c))
       & (λ v. shortcut-fine 1 win (i .b) (i .c))
-      & two-bool 2 eqb
-      & two-bool 2 (λ l r. not (eqb l r))
-      & (λ v. two-fine 3 win (λ l r. i32Result (checkedI32 (signed l +ℤ signed r))) (i .b) (i .c) (λ l r h j. i32-fine (signed l +ℤ signed r)))
-      & (λ v. two-fine 3 win (λ l r. i32Result (checkedI32 (signed l -ℤ signed r))) (i .b) (i .c) (λ l r h j. i32-fine (signed l -ℤ signed r)))
-      & (λ v. two-fine 3 win (λ l r. i32Result (checkedI32 (signed l *ℤ signed r))) (i .b) (i .c) (λ l r h j. i32-fine (signed l *ℤ signed r)))
-      & (λ v. dividing-fine 3 win (λ l r. i32Result (dividedI32 (signed l) (signed r))) (i .b) (i .c) (λ l r h j. i32-divided (signed l) (signed r)))
-      & two-bool 3 eqb
-      & two-bool 3 (λ l r. ltZ (signed l) (signed r))
-      & two-bool 3 (λ l r. leZ (signed l) (signed r))
-      & two-bool 3 (λ l r. ltZ (signed r) (signed l))
-      & two-bool 3 (λ l r. leZ (signed r) (signed l))
-      & (λ v. two-fine 4 win (λ l r. u32Result (checkedU32 (pos l +ℤ pos r))) (i .b) (i .c) (λ l r h j. u32-fine (pos l +ℤ pos r)))
-      & (λ v. two-fine 4 win (λ l r. u32Result (checkedU32 (pos l -ℤ pos r))) (i .b) (i .c) (λ l r h j. u32-fine (pos l -ℤ pos r)))
-      & (λ v. two-fine 4 win (λ l r. u32Result (checkedU32 (pos l *ℤ pos r))) (i .b) (i .c) (λ l r h j. u32-fine (pos l *ℤ pos r)))
-      & (λ v. dividing-fine 4 win (λ l r. u32Result (dividedU32 (pos l) (pos r))) (i .b) (i .c) (λ l r h j. u32-divided (pos l) (pos r)))
-      & two-bool 4 eqb
-      & two-bool 4 ltb
-      & two-bool 4 leb
-      & two-bool 4 (λ l r. ltb r l)
-      & two-bool 4 (λ l r. leb r l)
-      & (λ v. two-fine 5 win (λ l r. fxResult (fxOf (checkedI32 (signed l +ℤ signed r)))) (i .b) (i .c) (λ l r h j. fx-fine (signed l +ℤ signed r)))
-      & (λ v. two-fine 5 win (λ l r. fxResult (fxOf (checkedI32 (signed l -ℤ signed r)))) (i .b) (i .c) (λ l r h j. fx-fine (signed l -ℤ signed r)))
-      & (λ v. two-fine 5 win (λ l r. fxResult (fxOf (checkedI32 (fxProduct (signed l) (signed r))))) (i .b) (i .c) (λ l r h j. fx-fine (fxProduct (signed l) (signed r))))
-      & (λ v. two-fine 5 win (λ l r. fxResult (fxOf (fxDivided (signed l) (signed r)))) (i .b) (i .c) (λ l r h j. fx-divided (signed l) (signed r)))
-      & two-bool 5 eqb
-      & two-bool 5 (λ l r. ltZ (signed l) (signed r))
-      & two-bool 5 (λ l r. leZ (signed l) (signed r))
-      & two-bool 5 (λ l r. ltZ (signed r) (signed l))
-      & two-bool 5 (λ l r. leZ (signed r) (signed l))
+      & two-bool 2 _
+      & two-bool 2 _
+      & two-any 3 _ (λ l r h j. i32-fine (signed l +ℤ signed r))
+      & two-any 3 _ (λ l r h j. i32-fine (signed l -ℤ signed r))
+      & two-any 3 _ (λ l r h j. i32-fine (signed l *ℤ signed r))
+      & (λ v. dividing-fine 3 win _ (i .b) (i .c) (λ l r h j. i32-divided (signed l) (signed r)))
+      & two-bool 3 _
+      & two-bool 3 _
+      & two-bool 3 _
+      & two-bool 3 _
+      & two-bool 3 _
+      & two-any 4 _ (λ l r h j. u32-fine (pos l +ℤ pos r))
+      & two-any 4 _ (λ l r h j. u32-fine (pos l -ℤ pos r))
+      & two-any 4 _ (λ l r h j. u32-fine (pos l *ℤ pos r))
+      & (λ v. dividing-fine 4 win _ (i .b) (i .c) (λ l r h j. u32-divided (pos l) (pos r)))
+      & two-bool 4 _
+      & two-bool 4 _
+      & two-bool 4 _
+      & two-bool 4 _
+      & two-bool 4 _
+      & two-any 5 _ (λ l r h j. fx-fine (signed l +ℤ signed r))
+      & two-any 5 _ (λ l r h j. fx-fine (signed l -ℤ signed r))
+      & two-any 5 _ (λ l r h j. fx-fine (fxProduct (signed l) (signed r)))
+      & two-any 5 _ (λ l r h j. fx-divided (signed l) (signed r))
+      & two-bool 5 _
+      & two-bool 5 _
+      & two-bool 5 _
+      & two-bool 5 _
+      & two-bool 5 _
       & (λ v. any-fine win (i .b) held)
       & tt)
 

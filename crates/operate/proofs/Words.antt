@@ -1,14 +1,18 @@
 -- The words of a kind lie side by side from the kind's first word on. Assumes nothing.
 use Prim.Native.Nat.{ℕ, _-_, _*_, _/_, _%_, _^_, _≤_, _<_}
-use mathlib.Core.Path.{_≡_, sym, ap}
-use mathlib.Core.Bool.{true, false}
+use mathlib.Core.Path.{_≡_, sym, ap, subst}
+use mathlib.Core.Bool.{true, false, _&&_}
 use mathlib.Core.List.{List}
 use native.Mathlib.Omega.{arith}
 use native.Mathlib.Decide.{ℕ-discrete}
+use lib.Dec.{ltb, eqb}
 use lib.ListN.{length, getD}
 use borrow.Author.Tests.{lt-ltb, le-ltb, le-leb, lt-leb, eq-eqb, ne-eqb}
 use Rattle.runtime.specs.declared.CoreTrap.the-variants.{InvalidRegister, TypeMismatch}
-use Rattle.value.specs.Value.{payloads}
+use Rattle.basis.specs.Choice.{pick}
+use Rattle.value.specs.declared.word.CoreValue.{CoreValue}
+use Rattle.value.specs.Value.{payloads, kindOf, payloadOf, wordOf, Held}
+use Rattle.value.proofs.Words.{payload-within, kind-of-word, payload-of-word}
 use Rattle.operate.specs.declared.read.Read.the-variants.{Payload, Fault}
 use Rattle.operate.specs.Operate.{isOf, readAs}
 
@@ -47,3 +51,17 @@ module _ (kind : ℕ) (win : List ℕ) (r : ℕ) where
       → n ≤ getD win r 0 - kind * 2 ^ 32 → Fault TypeMismatch ≡ readAs kind win r
   unfolding readAs
   read-above n p m i l h = rw (lt-leb (length win) r i, above-is kind (getD win r 0) n (sym p) m l h)
+
+-- ---- a register that holds a value is read as the value's own kind, and as no other: the Rust's `as_quad`, `as_bool` and so on
+pub reads-value : (kind : ℕ) (win : List ℕ) (r : ℕ) (v : CoreValue) → Held v → r < length win → getD win r 0 ≡ wordOf v
+    → readAs kind win r ≡ pick (eqb (kindOf v) kind) (Payload (payloadOf v)) (Fault TypeMismatch)
+unfolding readAs
+reads-value kind win r v h i e =
+    rw (lt-leb (length win) r i, e, kind-of-word v h, payload-of-word v h) (by (ℕ-discrete (kindOf v) kind))
+  where
+    by : Dec (kindOf v ≡ kind)
+        → pick (eqb (kindOf v) kind && ltb (payloadOf v) (payloads kind)) (Payload (payloadOf v)) (Fault TypeMismatch)
+        ≡ pick (eqb (kindOf v) kind) (Payload (payloadOf v)) (Fault TypeMismatch)
+    by (yes q) =
+        rw (eq-eqb (kindOf v) kind q, lt-ltb (payloadOf v) (payloads kind) (subst (λ k. payloadOf v < payloads k) q (payload-within v h)))
+    by (no f) = rw (ne-eqb (kindOf v) kind f)

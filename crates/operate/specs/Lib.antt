@@ -1,4 +1,5 @@
 pub mod Rule
 pub mod Opcodes
 pub mod Operate
+pub mod Parts
 pub mod Values

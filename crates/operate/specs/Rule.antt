@@ -3,7 +3,7 @@ use Prim.Native.Nat.{ℕ}
 use mathlib.Core.Bool.{Bool}
 use Rattle.basis.specs.Choice.{pick}
 use Rattle.value.specs.Checked.{payload}
-use Rattle.value.specs.Value.{unitKind, boolKind, i32Kind, u32Kind, fxKind, register}
+use Rattle.value.specs.Value.{boolKind, i32Kind, u32Kind, fxKind, register}
 use Rattle.value.specs.declared.checked.CheckedI32.{CheckedI32}
 use Rattle.value.specs.declared.checked.CheckedI32.the-variants as i32
 use Rattle.value.specs.declared.checked.CheckedU32.{CheckedU32}
@@ -11,7 +11,7 @@ use Rattle.value.specs.declared.checked.CheckedU32.the-variants as u32
 use Rattle.value.specs.declared.fx.CheckedFx.{CheckedFx}
 use Rattle.value.specs.declared.fx.CheckedFx.the-variants as fx
 use Rattle.operate.specs.declared.Outcome.{Outcome}
-use Rattle.operate.specs.declared.Outcome.the-variants.{Value, Trap, NoValue}
+use Rattle.operate.specs.declared.Outcome.the-variants.{Value, Trap}
 
 -- what an opcode computes, in terms of the payloads of its operands
 pub data Rule : Type 0 where
@@ -34,7 +34,7 @@ pub data Rule : Type 0 where
 abbrev pub valued : ℕ → ℕ → Outcome
 valued kind p = Value (register kind p)
 
-abbrev pub boolResult : Bool → Outcome
+unfoldable pub boolResult : Bool → Outcome
 boolResult b = valued boolKind (pick b 1 0)
 
 abbrev pub i32Result : CheckedI32 → Outcome
@@ -48,40 +48,3 @@ u32Result (u32.Trap t) = Trap t
 abbrev pub fxResult : CheckedFx → Outcome
 fxResult (fx.Value v) = valued fxKind (payload (v .0))
 fxResult (fx.Trap t) = Trap t
-
--- ---- the parts of a rule: the kind of its operands, and the operation on their payloads
-unfoldable pub ruleKind : Rule → ℕ
-ruleKind nothing = unitKind
-ruleKind (loads kind f) = kind
-ruleKind (one kind f) = kind
-ruleKind (two kind f) = kind
-ruleKind (dividing kind f) = kind
-ruleKind (shortcut stop) = boolKind
-ruleKind moves = unitKind
-
-unfoldable pub onOne : Rule → ℕ → Outcome
-onOne nothing p = NoValue
-onOne (loads kind f) p = NoValue
-onOne (one kind f) p = f p
-onOne (two kind f) p = NoValue
-onOne (dividing kind f) p = NoValue
-onOne (shortcut stop) p = NoValue
-onOne moves p = NoValue
-
-unfoldable pub onTwo : Rule → ℕ → ℕ → Outcome
-onTwo nothing l r = NoValue
-onTwo (loads kind f) l r = NoValue
-onTwo (one kind f) l r = NoValue
-onTwo (two kind f) l r = f l r
-onTwo (dividing kind f) l r = f l r
-onTwo (shortcut stop) l r = NoValue
-onTwo moves l r = NoValue
-
-unfoldable pub onLoad : Rule → ℕ → ℕ → Outcome
-onLoad nothing small w = NoValue
-onLoad (loads kind f) small w = valued kind (f small w)
-onLoad (one kind f) small w = NoValue
-onLoad (two kind f) small w = NoValue
-onLoad (dividing kind f) small w = NoValue
-onLoad (shortcut stop) small w = NoValue
-onLoad moves small w = NoValue

@@ -9,7 +9,8 @@ use value::fx::Fx;
 ghost use mathlib.Core.Path.{_≡_};
 ghost use Prim.Native.Nat.{_≤_, _<_};
 ghost use Rattle.quad.specs.Quad.{inverseBits};
-ghost use Rattle.operate.specs.Rule.{onOne, onTwo, boolResult, i32Result, u32Result, fxResult};
+ghost use Rattle.operate.specs.Rule.{boolResult, i32Result, u32Result, fxResult};
+ghost use Rattle.operate.specs.Parts.{onOne, onTwo};
 ghost use Rattle.operate.specs.Opcodes.{ruleOf};
 
 fn truth(b: bool) -> Outcome

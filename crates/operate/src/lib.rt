@@ -6,7 +6,7 @@ use instr::Instr;
 use runtime::CoreTrap;
 ghost use mathlib.Core.Path.{_≡_};
 ghost use Prim.Native.Nat.{_≤_, _<_};
-ghost use Rattle.operate.specs.Rule.{ruleKind, onOne, onTwo, onLoad};
+ghost use Rattle.operate.specs.Parts.{ruleKind, onOne, onTwo, onLoad};
 ghost use Rattle.operate.specs.Opcodes.{ruleOf};
 ghost use Rattle.operate.specs.Operate.{readOne, readTwo, readDividing, readShortcut, readAny, operated};
 

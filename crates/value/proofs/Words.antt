@@ -1,19 +1,22 @@
 -- Values and register words, there and back: each value that the types hold has a word of its own, and `valueAt` finds it again;
 -- a word at which `valueAt` finds a value is that value's word. Assumes nothing.
 use Prim.Native.Nat.{ℕ, _/_, _%_, _^_, _≤_, _<_}
+use mathlib.Core.Bool as bool
 use mathlib.Core.Bool.{true, false}
 use mathlib.Core.Path.{_≡_, refl, sym, ap, ap₂, _∙_}
 use native.Mathlib.Omega.{arith}
 use native.Mathlib.Nat.{div-add-mod'}
 use native.Mathlib.Decide.{ℕ-discrete, decLt}
+use lib.Dec.{eqb}
 use borrow.Author.Tests.{eq-eqb, ne-eqb}
+use Rattle.basis.specs.Choice.{pick}
 use Rattle.basis.proofs.Ranges.{_&_, each}
 use Rattle.quad.specs.declared.QuadState.the-variants.{N, F, T, S}
 use Rattle.value.specs.declared.word.CoreValue.{CoreValue}
 use Rattle.value.specs.declared.word.CoreValue.the-variants.{Unit, Quad, Bool, I32, U32, Fx, Tuple, Record, Adt}
 use Rattle.value.specs.declared.word.WordFound.the-variants.{Value, NoValue}
 use Rattle.value.specs.Checked.{signed, payload}
-use Rattle.value.specs.Value.{payloads, register, wordOf, Held, HoldsValue, valueOfKind, valueAt, unitValue, quadValue, boolValue}
+use Rattle.value.specs.Value.{payloads, register, kindOf, payloadOf, wordOf, Held, HoldsValue, valueOfKind, valueAt, unitValue, quadValue, boolValue}
 use Rattle.value.proofs.Signs.{signed-fits, signed-payload, payload-signed, payload-small}
 
 -- ---- a word's two halves
@@ -158,3 +161,36 @@ filled k =
     & (λ p h. record { value = Record (record { 0 = p }); held = h; is = refl })
     & (λ p h. record { value = Adt (record { 0 = p }); held = h; is = refl })
     & tt)
+
+-- ---- a value's payload is one of its kind's, and has 32 bits
+pub payload-within : (v : CoreValue) → Held v → payloadOf v < payloads (kindOf v)
+payload-within Unit h = omega arith
+payload-within (Quad N) h = omega arith
+payload-within (Quad F) h = omega arith
+payload-within (Quad T) h = omega arith
+payload-within (Quad S) h = omega arith
+payload-within (Bool true) h = omega arith
+payload-within (Bool false) h = omega arith
+payload-within (I32 v) h = payload-small v h
+payload-within (U32 v) h = h
+payload-within (Fx v) h = payload-small (v .0) h
+payload-within (Tuple t) h = h
+payload-within (Record r) h = h
+payload-within (Adt a) h = h
+
+least : (b : bool.Bool) (m n : ℕ) → m ≤ 2 ^ 32 → n ≤ 2 ^ 32 → pick b m n ≤ 2 ^ 32
+least true m n h k = h
+least false m n h k = k
+
+pub payloads-bits : (k : ℕ) → payloads k ≤ 2 ^ 32
+payloads-bits k =
+    least (eqb k 0) 1 _ (omega arith) (least (eqb k 1) 4 _ (omega arith) (least (eqb k 2) 2 (2 ^ 32) (omega arith) (omega arith)))
+
+-- ---- the two halves of a value's word
+pub kind-of-word : (v : CoreValue) → Held v → wordOf v / 2 ^ 32 ≡ kindOf v
+unfolding wordOf
+kind-of-word v h = kind-half (kindOf v) (payloadOf v) (omega (arith, payload-within v h, payloads-bits (kindOf v)))
+
+pub payload-of-word : (v : CoreValue) → Held v → wordOf v % 2 ^ 32 ≡ payloadOf v
+unfolding wordOf
+payload-of-word v h = payload-half (kindOf v) (payloadOf v) (omega (arith, payload-within v h, payloads-bits (kindOf v)))

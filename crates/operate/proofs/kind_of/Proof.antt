@@ -1,6 +1,6 @@
 use native.Mathlib.Omega.{arith}
 use Rattle.operate.proofs.Rows.{hasKind, kind-rows}
-use Rattle.operate.specs.Rule.{ruleKind}
+use Rattle.operate.specs.Parts.{ruleKind}
 use Rattle.operate.specs.Opcodes.{rules, ruleOf}
 use Rattle.operate.proofs.kind_of.Statement.{statement}
 use Rattle.operate.proofs.kind_of.Tie as tie

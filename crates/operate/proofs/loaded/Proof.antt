@@ -1,6 +1,6 @@
 use native.Mathlib.Omega.{arith}
 use mathlib.Core.Path.{_≡_}
-use Rattle.operate.specs.Rule.{onLoad}
+use Rattle.operate.specs.Parts.{onLoad}
 use Rattle.operate.specs.Opcodes.{rules, ruleOf}
 use Rattle.basis.proofs.Ranges.{past}
 use borrow.Author.Needs.{needs}

@@ -1,6 +1,6 @@
 use native.Mathlib.Omega.{arith}
 use mathlib.Core.Path.{_∙_}
-use Rattle.operate.specs.Rule.{ruleKind, onOne, onTwo}
+use Rattle.operate.specs.Parts.{ruleKind, onOne, onTwo}
 use Rattle.operate.specs.Opcodes.{rules, ruleOf}
 use Rattle.operate.specs.Operate.{computed}
 use Rattle.operate.proofs.Rows.{load-rows, quad-rows, one-rows, two-rows, computes-nothing, computes-none}

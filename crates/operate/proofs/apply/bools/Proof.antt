@@ -1,6 +1,6 @@
 use mathlib.Core.Path.{_≡_}
 use native.Mathlib.Omega.{arith}
-use Rattle.operate.specs.Rule.{onTwo}
+use Rattle.operate.specs.Parts.{onTwo}
 use Rattle.operate.specs.Opcodes.{rules, ruleOf}
 use borrow.Author.Needs.{needs}
 use Rattle.operate.proofs.apply.bools.Statement.{statement}

@@ -1,15 +1,25 @@
 use native.Mathlib.Omega.{arith}
 use mathlib.Core.Path.{_≡_, ap, _∙_}
-use lib.IntN.{_+ℤ_, _-ℤ_, _*ℤ_}
+use lib.IntN.{ℤ, _+ℤ_, _-ℤ_, _*ℤ_}
 use lib.Signed.{ltZ, leZ}
-use Rattle.value.specs.Checked.{checkedI32, dividedI32}
-use Rattle.operate.specs.Rule.{onTwo, i32Result, boolResult}
+use mir.Syntax.{w32}
+use mir.Val.{toZ, ofZ}
+use Rattle.value.specs.Checked.{signed, checkedI32, dividedI32}
+use Rattle.operate.specs.Rule.{i32Result, boolResult}
+use Rattle.operate.specs.Parts.{onTwo}
 use Rattle.operate.specs.Opcodes.{rules, ruleOf}
 use Rattle.basis.proofs.Ranges.{past}
 use Rattle.operate.proofs.Operands.{on-signed}
 use borrow.Author.Needs.{needs}
 use Rattle.operate.proofs.apply.i32s.Statement.{statement}
 use Rattle.operate.proofs.apply.i32s.Tie as tie
+
+-- the two operands as signed numbers, wherever the code goes from there
+on-both : {A : Type 0} (f : ℤ → ℤ → A) (c : tie.After-signed-of2)
+    → f (toZ w32 (ofZ w32 (c .before .signed-of .result))) (toZ w32 (ofZ w32 (c .signed-of2 .result)))
+    ≡ f (signed (c .before .before .args .l)) (signed (c .before .before .args .r))
+on-both f c =
+    on-signed f (c .before .before .args .l) (c .before .before .args .r) (c .before .before .fits .l .fits) (c .before .before .fits .r .fits) (c .before .signed-of .ensures) (c .signed-of2 .ensures)
 
 signed-of-requires : tie.Need-signed-of-requires
 signed-of-requires c κs = search needs
@@ -58,19 +68,19 @@ truth-requires-5 c κs = search needs
 
 returns : tie.Need-returns
 unfolding rules ruleOf onTwo
-returns c = rw (c .before .before .match .keys1) (c .signed .ensures ∙ ap i32Result (c .before .add-i32 .ensures ∙ on-signed (λ a b. checkedI32 (a +ℤ b)) (c .before .before .before .before .before .args .l) (c .before .before .before .before .before .args .r) (c .before .before .before .before .before .fits .l .fits) (c .before .before .before .before .before .fits .r .fits) (c .before .before .before .before .signed-of .ensures) (c .before .before .before .signed-of2 .ensures)))
+returns c = rw (c .before .before .match .keys1) (c .signed .ensures ∙ ap i32Result (c .before .add-i32 .ensures ∙ on-both (λ a b. checkedI32 (a +ℤ b)) (c .before .before .before)))
 
 returns-2 : tie.Need-returns-2
 unfolding rules ruleOf onTwo
-returns-2 c = rw (c .before .before .match .keys2) (c .signed2 .ensures ∙ ap i32Result (c .before .sub-i32 .ensures ∙ on-signed (λ a b. checkedI32 (a -ℤ b)) (c .before .before .before .before .before .args .l) (c .before .before .before .before .before .args .r) (c .before .before .before .before .before .fits .l .fits) (c .before .before .before .before .before .fits .r .fits) (c .before .before .before .before .signed-of .ensures) (c .before .before .before .signed-of2 .ensures)))
+returns-2 c = rw (c .before .before .match .keys2) (c .signed2 .ensures ∙ ap i32Result (c .before .sub-i32 .ensures ∙ on-both (λ a b. checkedI32 (a -ℤ b)) (c .before .before .before)))
 
 returns-3 : tie.Need-returns-3
 unfolding rules ruleOf onTwo
-returns-3 c = rw (c .before .before .match .keys3) (c .signed3 .ensures ∙ ap i32Result (c .before .mul-i32 .ensures ∙ on-signed (λ a b. checkedI32 (a *ℤ b)) (c .before .before .before .before .before .args .l) (c .before .before .before .before .before .args .r) (c .before .before .before .before .before .fits .l .fits) (c .before .before .before .before .before .fits .r .fits) (c .before .before .before .before .signed-of .ensures) (c .before .before .before .signed-of2 .ensures)))
+returns-3 c = rw (c .before .before .match .keys3) (c .signed3 .ensures ∙ ap i32Result (c .before .mul-i32 .ensures ∙ on-both (λ a b. checkedI32 (a *ℤ b)) (c .before .before .before)))
 
 returns-4 : tie.Need-returns-4
 unfolding rules ruleOf onTwo
-returns-4 c = rw (c .before .before .match .keys4) (c .signed4 .ensures ∙ ap i32Result (c .before .div-i32 .ensures ∙ on-signed (dividedI32) (c .before .before .before .before .before .args .l) (c .before .before .before .before .before .args .r) (c .before .before .before .before .before .fits .l .fits) (c .before .before .before .before .before .fits .r .fits) (c .before .before .before .before .signed-of .ensures) (c .before .before .before .signed-of2 .ensures)))
+returns-4 c = rw (c .before .before .match .keys4) (c .signed4 .ensures ∙ ap i32Result (c .before .div-i32 .ensures ∙ on-both (dividedI32) (c .before .before .before)))
 
 returns-5 : tie.Need-returns-5
 unfolding rules ruleOf onTwo
@@ -78,19 +88,19 @@ returns-5 c = rw (c .before .match .keys5) (c .truth .ensures)
 
 returns-6 : tie.Need-returns-6
 unfolding rules ruleOf onTwo
-returns-6 c = rw (c .before .match .keys6) (c .truth2 .ensures ∙ on-signed (λ a b. boolResult (ltZ a b)) (c .before .before .before .before .args .l) (c .before .before .before .before .args .r) (c .before .before .before .before .fits .l .fits) (c .before .before .before .before .fits .r .fits) (c .before .before .before .signed-of .ensures) (c .before .before .signed-of2 .ensures))
+returns-6 c = rw (c .before .match .keys6) (c .truth2 .ensures ∙ on-both (λ a b. boolResult (ltZ a b)) (c .before .before))
 
 returns-7 : tie.Need-returns-7
 unfolding rules ruleOf onTwo
-returns-7 c = rw (c .before .match .keys7) (c .truth3 .ensures ∙ on-signed (λ a b. boolResult (leZ a b)) (c .before .before .before .before .args .l) (c .before .before .before .before .args .r) (c .before .before .before .before .fits .l .fits) (c .before .before .before .before .fits .r .fits) (c .before .before .before .signed-of .ensures) (c .before .before .signed-of2 .ensures))
+returns-7 c = rw (c .before .match .keys7) (c .truth3 .ensures ∙ on-both (λ a b. boolResult (leZ a b)) (c .before .before))
 
 returns-8 : tie.Need-returns-8
 unfolding rules ruleOf onTwo
-returns-8 c = rw (c .before .match .keys8) (c .truth4 .ensures ∙ on-signed (λ a b. boolResult (ltZ b a)) (c .before .before .before .before .args .l) (c .before .before .before .before .args .r) (c .before .before .before .before .fits .l .fits) (c .before .before .before .before .fits .r .fits) (c .before .before .before .signed-of .ensures) (c .before .before .signed-of2 .ensures))
+returns-8 c = rw (c .before .match .keys8) (c .truth4 .ensures ∙ on-both (λ a b. boolResult (ltZ b a)) (c .before .before))
 
 returns-9 : tie.Need-returns-9
 unfolding rules ruleOf onTwo
-returns-9 c = rw (let e : c .before .before .before .before .args .op ≡ 31 = omega (arith, past _ 23 8 (c .before .match .rest) (c .before .before .before .before .pre .0)) in e) (c .truth5 .ensures ∙ on-signed (λ a b. boolResult (leZ b a)) (c .before .before .before .before .args .l) (c .before .before .before .before .args .r) (c .before .before .before .before .fits .l .fits) (c .before .before .before .before .fits .r .fits) (c .before .before .before .signed-of .ensures) (c .before .before .signed-of2 .ensures))
+returns-9 c = rw (let e : c .before .before .before .before .args .op ≡ 31 = omega (arith, past _ 23 8 (c .before .match .rest) (c .before .before .before .before .pre .0)) in e) (c .truth5 .ensures ∙ on-both (λ a b. boolResult (leZ b a)) (c .before .before))
 
 pub i32s-spec : {M : Type 1} → statement M
 i32s-spec =

@@ -1,7 +1,7 @@
 use native.Mathlib.Omega.{arith}
 use Prim.Native.Nat.{ℕ, _≤_, _<_}
 use mathlib.Core.Path.{_≡_}
-use Rattle.operate.specs.Rule.{onOne}
+use Rattle.operate.specs.Parts.{onOne}
 use Rattle.operate.specs.Opcodes.{rules, ruleOf}
 use Rattle.operate.proofs.Rows.{no-one}
 use borrow.Author.Needs.{needs}

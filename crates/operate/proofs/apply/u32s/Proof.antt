@@ -1,6 +1,7 @@
 use native.Mathlib.Omega.{arith}
 use mathlib.Core.Path.{_≡_, ap, _∙_}
-use Rattle.operate.specs.Rule.{onTwo, u32Result}
+use Rattle.operate.specs.Rule.{u32Result}
+use Rattle.operate.specs.Parts.{onTwo}
 use Rattle.operate.specs.Opcodes.{rules, ruleOf}
 use Rattle.basis.proofs.Ranges.{past}
 use borrow.Author.Needs.{needs}
