@@ -1,5 +1,5 @@
 -- The rows of the table of rules, by the ranges in which the code decides. Assumes nothing.
-use Prim.Native.Nat.{ℕ, _+_, _≤_, _<_}
+use Prim.Native.Nat.{ℕ, _+_, _-_, _≤_, _<_}
 use mathlib.Core.Bool.{Bool}
 use mathlib.Core.Path.{_≡_, refl, sym, ap}
 use mathlib.Core.List.{List}
@@ -34,6 +34,12 @@ no-one op p = each (λ k. NoValue ≡ onOne (ruleOf k) p) 10 5 op (refl & refl &
 pub no-two : (op l r : ℕ) → 15 ≤ op → op < 21 → NoValue ≡ onTwo (ruleOf op) l r
 unfolding rules ruleOf onTwo
 no-two op l r = each (λ k. NoValue ≡ onTwo (ruleOf k) l r) 15 6 op (refl & refl & refl & refl & refl & refl & tt)
+
+-- Fx compares as I32 does
+pub fx-order : (op l r : ℕ) → 45 ≤ op → op < 50 → onTwo (ruleOf (op - 18)) l r ≡ onTwo (ruleOf op) l r
+unfolding rules ruleOf onTwo
+fx-order op l r =
+    each (λ k. onTwo (ruleOf (k - 18)) l r ≡ onTwo (ruleOf k) l r) 45 5 op (refl & refl & refl & refl & refl & tt)
 
 module _ (i : Instr) (win : List ℕ) where
   -- Nop, Trap and Assert, and what lies past Move

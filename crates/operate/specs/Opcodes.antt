@@ -22,6 +22,19 @@ equal l r = boolResult (eqb l r)
 abbrev pub unequal : ℕ → ℕ → Outcome
 unequal l r = boolResult (not (eqb l r))
 
+-- the order of signed numbers, which I32 and Fx share
+abbrev pub less : ℕ → ℕ → Outcome
+less l r = boolResult (ltZ (signed l) (signed r))
+
+abbrev pub lessOrEqual : ℕ → ℕ → Outcome
+lessOrEqual l r = boolResult (leZ (signed l) (signed r))
+
+abbrev pub greater : ℕ → ℕ → Outcome
+greater l r = less r l
+
+abbrev pub greaterOrEqual : ℕ → ℕ → Outcome
+greaterOrEqual l r = lessOrEqual r l
+
 -- ---- loads
 abbrev pub LoadUnit : Rule
 LoadUnit = loads unitKind (λ small w. 0)
@@ -104,16 +117,16 @@ abbrev pub I32Eq : Rule
 I32Eq = two i32Kind equal
 
 abbrev pub I32Lt : Rule
-I32Lt = two i32Kind (λ l r. boolResult (ltZ (signed l) (signed r)))
+I32Lt = two i32Kind less
 
 abbrev pub I32Le : Rule
-I32Le = two i32Kind (λ l r. boolResult (leZ (signed l) (signed r)))
+I32Le = two i32Kind lessOrEqual
 
 abbrev pub I32Gt : Rule
-I32Gt = two i32Kind (λ l r. boolResult (ltZ (signed r) (signed l)))
+I32Gt = two i32Kind greater
 
 abbrev pub I32Ge : Rule
-I32Ge = two i32Kind (λ l r. boolResult (leZ (signed r) (signed l)))
+I32Ge = two i32Kind greaterOrEqual
 
 -- ---- unsigned numbers: the same order
 abbrev pub U32Add : Rule
@@ -160,16 +173,16 @@ abbrev pub FxEq : Rule
 FxEq = two fxKind equal
 
 abbrev pub FxLt : Rule
-FxLt = two fxKind (λ l r. boolResult (ltZ (signed l) (signed r)))
+FxLt = two fxKind less
 
 abbrev pub FxLe : Rule
-FxLe = two fxKind (λ l r. boolResult (leZ (signed l) (signed r)))
+FxLe = two fxKind lessOrEqual
 
 abbrev pub FxGt : Rule
-FxGt = two fxKind (λ l r. boolResult (ltZ (signed r) (signed l)))
+FxGt = two fxKind greater
 
 abbrev pub FxGe : Rule
-FxGe = two fxKind (λ l r. boolResult (leZ (signed r) (signed l)))
+FxGe = two fxKind greaterOrEqual
 
 -- ---- any value
 abbrev pub Move : Rule

@@ -101,9 +101,9 @@ fn bools(op: u8, l: u32, r: u32) -> Outcome
     }
 }
 
-// I32Add, I32Sub, I32Mul, I32Div, I32Eq, I32Lt, I32Le, I32Gt, I32Ge.
+// I32Add, I32Sub, I32Mul, I32Div.
 fn i32s(op: u8, l: u32, r: u32) -> Outcome
-    requires { ⌜ (23 ≤ op) × (op < 32) ⌝ }
+    requires { ⌜ (23 ≤ op) × (op < 27) ⌝ }
     ensures { λ o. ⌜ o ≡ onTwo (ruleOf op) l r ⌝ }
 {
     let a = checked::signed_of(l);
@@ -112,7 +112,18 @@ fn i32s(op: u8, l: u32, r: u32) -> Outcome
         23 => signed(checked::add_i32(a, b)),
         24 => signed(checked::sub_i32(a, b)),
         25 => signed(checked::mul_i32(a, b)),
-        26 => signed(checked::div_i32(a, b)),
+        _ => signed(checked::div_i32(a, b)),
+    }
+}
+
+// I32Eq, I32Lt, I32Le, I32Gt, I32Ge.
+fn compared(op: u8, l: u32, r: u32) -> Outcome
+    requires { ⌜ (27 ≤ op) × (op < 32) ⌝ }
+    ensures { λ o. ⌜ o ≡ onTwo (ruleOf op) l r ⌝ }
+{
+    let a = checked::signed_of(l);
+    let b = checked::signed_of(r);
+    match op {
         27 => truth(l == r),
         28 => truth(a < b),
         29 => truth(a <= b),
@@ -139,27 +150,22 @@ fn u32s(op: u8, l: u32, r: u32) -> Outcome
     }
 }
 
-// FxAdd, FxSub, FxMul, FxDiv, FxEq, FxLt, FxLe, FxGt, FxGe.
+// FxAdd, FxSub, FxMul, FxDiv.
 fn fxs(op: u8, l: u32, r: u32) -> Outcome
-    requires { ⌜ (41 ≤ op) × (op < 50) ⌝ }
+    requires { ⌜ (41 ≤ op) × (op < 45) ⌝ }
     ensures { λ o. ⌜ o ≡ onTwo (ruleOf op) l r ⌝ }
 {
-    let a = checked::signed_of(l);
-    let b = checked::signed_of(r);
+    let a = Fx::from_raw(checked::signed_of(l));
+    let b = Fx::from_raw(checked::signed_of(r));
     match op {
-        41 => fixed(Fx::from_raw(a).add_checked(Fx::from_raw(b))),
-        42 => fixed(Fx::from_raw(a).sub_checked(Fx::from_raw(b))),
-        43 => fixed(Fx::from_raw(a).mul_checked(Fx::from_raw(b))),
-        44 => fixed(Fx::from_raw(a).div_checked(Fx::from_raw(b))),
-        45 => truth(l == r),
-        46 => truth(a < b),
-        47 => truth(a <= b),
-        48 => truth(b < a),
-        _ => truth(b <= a),
+        41 => fixed(a.add_checked(b)),
+        42 => fixed(a.sub_checked(b)),
+        43 => fixed(a.mul_checked(b)),
+        _ => fixed(a.div_checked(b)),
     }
 }
 
-// The operation on lhs and rhs.
+// The operation on lhs and rhs. FxEq to FxGe, 45 to 49, compare as I32Eq to I32Ge do, 18 numbers below.
 pub fn two(op: u8, l: u32, r: u32) -> Outcome
     requires { ⌜ (10 ≤ op) × (op < 50) ⌝ }
     ensures { λ o. ⌜ o ≡ onTwo (ruleOf op) l r ⌝ }
@@ -167,9 +173,11 @@ pub fn two(op: u8, l: u32, r: u32) -> Outcome
     match op {
         10..=14 => quads(op, l, r),
         21..=22 => bools(op, l, r),
-        23..=31 => i32s(op, l, r),
+        23..=26 => i32s(op, l, r),
+        27..=31 => compared(op, l, r),
         32..=40 => u32s(op, l, r),
-        41..=49 => fxs(op, l, r),
+        41..=44 => fxs(op, l, r),
+        45..=49 => compared(op - 18, l, r),
         _ => Outcome::NoValue,
     }
 }

@@ -1,11 +1,10 @@
 use native.Mathlib.Omega.{arith}
 use mathlib.Core.Path.{_≡_, ap, _∙_}
 use lib.IntN.{ℤ, _+ℤ_, _-ℤ_, _*ℤ_}
-use lib.Signed.{ltZ, leZ}
 use mir.Syntax.{w32}
 use mir.Val.{toZ, ofZ}
 use Rattle.value.specs.Checked.{signed, checkedI32, dividedI32}
-use Rattle.operate.specs.Rule.{i32Result, boolResult}
+use Rattle.operate.specs.Rule.{i32Result}
 use Rattle.operate.specs.Parts.{onTwo}
 use Rattle.operate.specs.Opcodes.{rules, ruleOf}
 use Rattle.basis.proofs.Ranges.{past}
@@ -51,21 +50,6 @@ div-i32-requires c κs = search needs
 signed-requires-4 : tie.Need-signed-requires-4
 signed-requires-4 c κs = search needs
 
-truth-requires : tie.Need-truth-requires
-truth-requires c κs = search needs
-
-truth-requires-2 : tie.Need-truth-requires-2
-truth-requires-2 c κs = search needs
-
-truth-requires-3 : tie.Need-truth-requires-3
-truth-requires-3 c κs = search needs
-
-truth-requires-4 : tie.Need-truth-requires-4
-truth-requires-4 c κs = search needs
-
-truth-requires-5 : tie.Need-truth-requires-5
-truth-requires-5 c κs = search needs
-
 returns : tie.Need-returns
 unfolding rules ruleOf onTwo
 returns c = rw (c .before .before .match .keys1) (c .signed .ensures ∙ ap i32Result (c .before .add-i32 .ensures ∙ on-both (λ a b. checkedI32 (a +ℤ b)) (c .before .before .before)))
@@ -80,27 +64,7 @@ returns-3 c = rw (c .before .before .match .keys3) (c .signed3 .ensures ∙ ap i
 
 returns-4 : tie.Need-returns-4
 unfolding rules ruleOf onTwo
-returns-4 c = rw (c .before .before .match .keys4) (c .signed4 .ensures ∙ ap i32Result (c .before .div-i32 .ensures ∙ on-both (dividedI32) (c .before .before .before)))
-
-returns-5 : tie.Need-returns-5
-unfolding rules ruleOf onTwo
-returns-5 c = rw (c .before .match .keys5) (c .truth .ensures)
-
-returns-6 : tie.Need-returns-6
-unfolding rules ruleOf onTwo
-returns-6 c = rw (c .before .match .keys6) (c .truth2 .ensures ∙ on-both (λ a b. boolResult (ltZ a b)) (c .before .before))
-
-returns-7 : tie.Need-returns-7
-unfolding rules ruleOf onTwo
-returns-7 c = rw (c .before .match .keys7) (c .truth3 .ensures ∙ on-both (λ a b. boolResult (leZ a b)) (c .before .before))
-
-returns-8 : tie.Need-returns-8
-unfolding rules ruleOf onTwo
-returns-8 c = rw (c .before .match .keys8) (c .truth4 .ensures ∙ on-both (λ a b. boolResult (ltZ b a)) (c .before .before))
-
-returns-9 : tie.Need-returns-9
-unfolding rules ruleOf onTwo
-returns-9 c = rw (let e : c .before .before .before .before .args .op ≡ 31 = omega (arith, past _ 23 8 (c .before .match .rest) (c .before .before .before .before .pre .0)) in e) (c .truth5 .ensures ∙ on-both (λ a b. boolResult (leZ b a)) (c .before .before))
+returns-4 c = rw (let e : c .before .before .before .before .before .args .op ≡ 26 = omega (arith, past _ 23 3 (c .before .before .match .rest) (c .before .before .before .before .before .pre .0)) in e) (c .signed4 .ensures ∙ ap i32Result (c .before .div-i32 .ensures ∙ on-both (dividedI32) (c .before .before .before)))
 
 pub i32s-spec : {M : Type 1} → statement M
 i32s-spec =
@@ -116,17 +80,7 @@ i32s-spec =
     signed-requires-3
     div-i32-requires
     signed-requires-4
-    truth-requires
-    truth-requires-2
-    truth-requires-3
-    truth-requires-4
-    truth-requires-5
     returns
     returns-2
     returns-3
-    returns-4
-    returns-5
-    returns-6
-    returns-7
-    returns-8
-    returns-9)
+    returns-4)
