@@ -7,6 +7,8 @@ use instr::Instr;
 use libc::STDIN_FILENO;
 use libc::STDOUT_FILENO;
 use operate::Outcome;
+ghost use mathlib.Core.Path.{_≡_};
+ghost use lib.ListN.{length};
 
 // A field of a line: a number, a run of minus signs, or neither.
 enum Field {
@@ -117,9 +119,24 @@ fn answer(op: u64, small: u64, w: u64, lhs: Operand, rhs: Operand) -> bool {
     print_outcome(operate::operate(opcode, i, &window))
 }
 
+// A space after each field and a line feed after the last: without this test, a stream that lost a byte would be answered as if it
+// were another.
+fn framed(line: &[u8]) -> bool
+    requires { ⌜ length (now line) ≡ 49 ⌝ }
+{
+    (line[2] == b' ')
+        & (line[5] == b' ')
+        & (line[14] == b' ')
+        & (line[31] == b' ')
+        & (line[48] == b'\n')
+}
+
 // A line that the end of the input cuts short is bad too.
 fn answer_line(line: &[u8]) -> bool {
-    if line.len() < 49 {
+    if line.len() != 49 {
+        return print_bad();
+    }
+    if !framed(line) {
         return print_bad();
     }
     let Field::Number(op) = number(&line[0..2]) else {

@@ -69,13 +69,29 @@ const FX_EDGES: [i32; 15] = [
 const RANDOM_PAIRS: usize = 3_000;
 const SEED: u64 = 0x6b6e_6974_0000_0001;
 
-/// Writes the list, and to `notes` how long it is.
+/// What is no case, each line wrong in one way: a digit that is none, one in
+/// upper case, a minus sign among digits, a digit among minus signs, no space
+/// between two fields, a carriage return for the last digit, and, as the very
+/// last, a line that the end of the input cuts short.
+pub const NO_CASES: [&str; 7] = [
+    "1g 00 00000000 0000000300000007 0000000300000002\n",
+    "1a 00 00000000 00000003FFFFFFFF 0000000300000002\n",
+    "1a 00 00000000 000000030000000- 0000000300000002\n",
+    "1a 00 00000000 0000000300000007 ---------------2\n",
+    "1a-00 00000000 0000000300000007 0000000300000002\n",
+    "1a 00 00000000 0000000300000007 000000030000000\r\n",
+    "1a 00 00000000 0000000300000007 000000030000000",
+];
+
+/// Writes the list and after it what is no case, and to `notes` how long the
+/// list is.
 pub fn write(output: impl Write, mut notes: impl Write) -> io::Result<()> {
     let cases = all();
     let mut output = BufWriter::new(output);
     for case in &cases {
         writeln!(output, "{}", case.line())?;
     }
+    output.write_all(NO_CASES.concat().as_bytes())?;
     output.flush()?;
     writeln!(notes, "{}", summary(&cases))
 }

@@ -57,12 +57,18 @@ fn the_list_is_answered_line_by_line() {
     let cases = oracle(&["operate-cases"], "");
     assert_eq!(cases.status.code(), Some(0));
     let answers = oracle(&["operate"], text(&cases.stdout));
-    assert_eq!(answers.status.code(), Some(0));
+    // The last seven lines are no cases, and nothing before them is bad.
+    assert_eq!(answers.status.code(), Some(1));
     let count = text(&cases.stdout).lines().count();
-    assert_eq!(text(&answers.stdout).lines().count(), count);
-    assert_eq!(cases.stdout.len(), 49 * count);
-    assert!(text(&cases.stderr).starts_with(&format!("{count} lines, ")));
-    assert!(text(&answers.stderr).starts_with("value: "));
+    let lines: Vec<&str> = text(&answers.stdout).lines().collect();
+    assert_eq!(lines.len(), count);
+    let (good, bad) = lines.split_at(count - 7);
+    assert!(good.iter().all(|line| *line != "bad line"));
+    assert!(bad.iter().all(|line| *line == "bad line"));
+    assert_eq!(cases.stdout.len(), 49 * count - 2);
+    let listed = format!("{} lines, ", count - 7);
+    assert!(text(&cases.stderr).starts_with(&listed));
+    assert!(text(&answers.stderr).contains("value: "));
 }
 
 #[test]

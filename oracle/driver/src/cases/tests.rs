@@ -84,3 +84,11 @@ fn the_generator_is_splitmix64() {
     assert_eq!(random.next(), 6_457_827_717_110_365_317);
     assert_eq!(random.next(), 3_203_168_211_198_807_973);
 }
+
+#[test]
+fn what_is_no_case_is_read_as_none() {
+    for line in NO_CASES {
+        let text = line.strip_suffix('\n').unwrap_or(line);
+        assert_eq!(Case::read(text.as_bytes()), None, "{text:?}");
+    }
+}
