@@ -6,6 +6,11 @@ use value::checked::CheckedI32;
 use value::checked::CheckedU32;
 use value::fx::CheckedFx;
 use value::fx::Fx;
+use value::word::KIND_BOOL;
+use value::word::KIND_FX;
+use value::word::KIND_I32;
+use value::word::KIND_QUAD;
+use value::word::KIND_U32;
 ghost use mathlib.Core.Path.{_≡_};
 ghost use Prim.Native.Nat.{_≤_, _<_};
 ghost use Rattle.quad.specs.Quad.{inverseBits};
@@ -17,9 +22,9 @@ fn truth(b: bool) -> Outcome
     ensures { λ r. ⌜ r ≡ boolResult b ⌝ }
 {
     if b {
-        read::word(2, 1)
+        read::word(KIND_BOOL, 1)
     } else {
-        read::word(2, 0)
+        read::word(KIND_BOOL, 0)
     }
 }
 
@@ -27,7 +32,7 @@ fn signed(c: CheckedI32) -> Outcome
     ensures { λ r. ⌜ r ≡ i32Result c ⌝ }
 {
     match c {
-        CheckedI32::Value(v) => read::word(3, checked::payload_of(v)),
+        CheckedI32::Value(v) => read::word(KIND_I32, checked::payload_of(v)),
         CheckedI32::Trap(t) => Outcome::Trap(t),
     }
 }
@@ -36,7 +41,7 @@ fn unsigned(c: CheckedU32) -> Outcome
     ensures { λ r. ⌜ r ≡ u32Result c ⌝ }
 {
     match c {
-        CheckedU32::Value(v) => read::word(4, v),
+        CheckedU32::Value(v) => read::word(KIND_U32, v),
         CheckedU32::Trap(t) => Outcome::Trap(t),
     }
 }
@@ -45,7 +50,7 @@ fn fixed(c: CheckedFx) -> Outcome
     ensures { λ r. ⌜ r ≡ fxResult c ⌝ }
 {
     match c {
-        CheckedFx::Value(v) => read::word(5, v.payload()),
+        CheckedFx::Value(v) => read::word(KIND_FX, v.payload()),
         CheckedFx::Trap(t) => Outcome::Trap(t),
     }
 }
@@ -66,7 +71,7 @@ pub fn one(op: u8, p: u32) -> Outcome
     ensures { λ r. ⌜ r ≡ onOne (ruleOf op) p ⌝ }
 {
     match op {
-        9 => read::word(1, inverse(p)),
+        9 => read::word(KIND_QUAD, inverse(p)),
         15 => truth((p == 1) | (p == 2)),
         16 => truth(p == 3),
         17 => truth(p == 0),
@@ -81,9 +86,9 @@ fn quads(op: u8, l: u32, r: u32) -> Outcome
     ensures { λ o. ⌜ o ≡ onTwo (ruleOf op) l r ⌝ }
 {
     match op {
-        10 => read::word(1, l | r),
-        11 => read::word(1, l & r),
-        12 => read::word(1, inverse(l) | r),
+        10 => read::word(KIND_QUAD, l | r),
+        11 => read::word(KIND_QUAD, l & r),
+        12 => read::word(KIND_QUAD, inverse(l) | r),
         13 => truth(l == r),
         _ => truth(l != r),
     }

@@ -4,6 +4,12 @@
 // take the opcode along. Called with the opcode as a literal, the compiler folds them into the code of that opcode alone.
 use instr::Instr;
 use runtime::CoreTrap;
+use value::word::KIND_BOOL;
+use value::word::KIND_FX;
+use value::word::KIND_I32;
+use value::word::KIND_QUAD;
+use value::word::KIND_U32;
+use value::word::KIND_UNIT;
 ghost use mathlib.Core.Path.{_≡_};
 ghost use Prim.Native.Nat.{_≤_, _<_};
 ghost use Rattle.operate.specs.Parts.{ruleKind, onOne, onTwo, onLoad};
@@ -28,11 +34,11 @@ fn kind_of(op: u8) -> u8
     ensures { λ r. ⌜ r ≡ ruleKind (ruleOf op) ⌝ }
 {
     match op {
-        0..=17 => 1,
-        18..=22 => 2,
-        23..=31 => 3,
-        32..=40 => 4,
-        _ => 5,
+        0..=17 => KIND_QUAD,
+        18..=22 => KIND_BOOL,
+        23..=31 => KIND_I32,
+        32..=40 => KIND_U32,
+        _ => KIND_FX,
     }
 }
 
@@ -84,15 +90,15 @@ fn dividing(op: u8, win: &[u64], lhs: usize, rhs: usize) -> Outcome
 fn shortcut(stop: u32, win: &[u64], lhs: usize, rhs: usize) -> Outcome
     ensures { λ r. ⌜ r ≡ readShortcut stop (now (win .entry)) lhs rhs ⌝ }
 {
-    match read::operand(win, lhs, 2) {
+    match read::operand(win, lhs, KIND_BOOL) {
         Read::Fault(t) => Outcome::Trap(t),
         Read::Payload(l) => {
             if l == stop {
-                return read::word(2, l);
+                return read::word(KIND_BOOL, l);
             }
-            match read::operand(win, rhs, 2) {
+            match read::operand(win, rhs, KIND_BOOL) {
                 Read::Fault(t) => Outcome::Trap(t),
-                Read::Payload(r) => read::word(2, r),
+                Read::Payload(r) => read::word(KIND_BOOL, r),
             }
         }
     }
@@ -113,12 +119,12 @@ fn loaded(op: u8, small: u8, w: u32) -> Outcome
     ensures { λ r. ⌜ r ≡ onLoad (ruleOf op) small w ⌝ }
 {
     match op {
-        3 => read::word(0, 0),
-        4 => read::word(1, small as u32),
-        5 => read::word(2, small as u32),
-        6 => read::word(3, w),
-        7 => read::word(4, w),
-        _ => read::word(5, w),
+        3 => read::word(KIND_UNIT, 0),
+        4 => read::word(KIND_QUAD, small as u32),
+        5 => read::word(KIND_BOOL, small as u32),
+        6 => read::word(KIND_I32, w),
+        7 => read::word(KIND_U32, w),
+        _ => read::word(KIND_FX, w),
     }
 }
 

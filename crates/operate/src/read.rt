@@ -1,6 +1,9 @@
 // Operands out of a register window, and words into it.
 use crate::Outcome;
 use runtime::CoreTrap;
+use value::word::KIND_BOOL;
+use value::word::KIND_QUAD;
+use value::word::KIND_UNIT;
 ghost use mathlib.Core.Path.{_≡_};
 ghost use Prim.Native.Nat.{_≤_, _^_};
 ghost use Rattle.value.specs.Value.{payloads};
@@ -17,9 +20,9 @@ fn payloads_of(kind: u8) -> u64
     ensures { λ r. ⌜ (r ≡ payloads kind) × (r ≤ 2 ^ 32) ⌝ }
 {
     match kind {
-        0 => 1,
-        1 => 4,
-        2 => 2,
+        KIND_UNIT => 1,
+        KIND_QUAD => 4,
+        KIND_BOOL => 2,
         _ => 0x1_0000_0000,
     }
 }

@@ -2,8 +2,7 @@
 -- rules follow, each over the bits, which is what a register holds.
 use Prim.Native.Nat.{ℕ}
 use mathlib.Core.Bool.{Bool, _||_}
-use mathlib.Core.List.{List, [], _∷_}
-use lib.Dec.{ltb, eqb}
+use lib.Dec.{eqb}
 use Rattle.basis.specs.Choice.{pick}
 use Rattle.quad.specs.declared.QuadState.{QuadState}
 use Rattle.quad.specs.declared.QuadState.the-variants.{N, F, T, S}
@@ -30,11 +29,8 @@ isConflict b = eqb b (quadBits S)
 abbrev pub isNull : ℕ → Bool
 isNull b = eqb b (quadBits N)
 
--- the bits of what was found; nothing for no state
-abbrev pub stateNumbers : QuadFound → List ℕ
-stateNumbers (State q) = quadBits q ∷ []
-stateNumbers NoState = []
-
--- the four numbers below 4 are states
-abbrev pub bitsNumbers : ℕ → List ℕ
-bitsNumbers b = pick (ltb b 4) (b ∷ []) []
+-- and back: the numbers below 4 are states, and no other number is
+unfoldable pub stateAt : ℕ → QuadFound
+stateAt b =
+    pick (eqb b (quadBits N)) (State N)
+    (pick (eqb b (quadBits F)) (State F) (pick (eqb b (quadBits T)) (State T) (pick (eqb b (quadBits S)) (State S) NoState)))

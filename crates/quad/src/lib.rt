@@ -2,7 +2,7 @@
 ghost use mathlib.Core.Path.{_≡_};
 ghost use Prim.Native.Nat.{_<_};
 ghost use lib.Bits.{bitOr, bitAnd};
-ghost use Rattle.quad.specs.Quad.{quadBits, stateNumbers, bitsNumbers, inverseBits, isKnown, isConflict, isNull};
+ghost use Rattle.quad.specs.Quad.{quadBits, stateAt, inverseBits, isKnown, isConflict, isNull};
 
 pub enum QuadState {
     N,
@@ -30,7 +30,7 @@ impl QuadState {
     }
 
     pub fn from_bits(bits: u8) -> QuadFound
-        ensures { λ r. ⌜ stateNumbers r ≡ bitsNumbers bits ⌝ }
+        ensures { λ r. ⌜ r ≡ stateAt bits ⌝ }
     {
         match bits {
             0 => QuadFound::State(QuadState::N),

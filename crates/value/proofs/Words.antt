@@ -11,12 +11,17 @@ use lib.Dec.{eqb}
 use borrow.Author.Tests.{eq-eqb, ne-eqb}
 use Rattle.basis.specs.Choice.{pick}
 use Rattle.basis.proofs.Ranges.{_&_, each}
+use Rattle.quad.specs.declared.QuadState.{QuadState}
 use Rattle.quad.specs.declared.QuadState.the-variants.{N, F, T, S}
+use Rattle.quad.specs.declared.QuadFound.{QuadFound}
+use Rattle.quad.specs.declared.QuadFound.the-variants.{State, NoState}
+use Rattle.quad.specs.Quad.{quadBits, stateAt}
+use Rattle.quad.proofs.Bits.{quad-small, state-found, state-bits}
 use Rattle.value.specs.declared.word.CoreValue.{CoreValue}
 use Rattle.value.specs.declared.word.CoreValue.the-variants.{Unit, Quad, Bool, I32, U32, Fx, Tuple, Record, Adt}
 use Rattle.value.specs.declared.word.WordFound.the-variants.{Value, NoValue}
 use Rattle.value.specs.Checked.{signed, payload}
-use Rattle.value.specs.Value.{payloads, register, kindOf, payloadOf, wordOf, Held, HoldsValue, valueOfKind, valueAt, unitValue, quadValue, boolValue}
+use Rattle.value.specs.Value.{payloads, register, kindOf, payloadOf, wordOf, Held, HoldsValue, valueOfKind, valueAt, unitValue, quadFound, quadValue, boolValue}
 use Rattle.value.proofs.Signs.{signed-fits, signed-payload, payload-signed, payload-small}
 
 -- ---- a word's two halves
@@ -34,10 +39,7 @@ halves k p h = ap₂ valueOfKind (kind-half k p h) (payload-half k p h)
 pub found : (v : CoreValue) → Held v → valueAt (wordOf v) ≡ Value v
 unfolding wordOf
 found Unit h = halves 0 0 (omega arith)
-found (Quad N) h = halves 1 0 (omega arith)
-found (Quad F) h = halves 1 1 (omega arith)
-found (Quad T) h = halves 1 2 (omega arith)
-found (Quad S) h = halves 1 3 (omega arith)
+found (Quad q) h = halves 1 (quadBits q) (omega (arith, quad-small q)) ∙ ap quadFound (state-found q)
 found (Bool true) h = halves 2 1 (omega arith)
 found (Bool false) h = halves 2 0 (omega arith)
 found (I32 v) h = halves 3 (payload v) (payload-small v h) ∙ ap (λ z. Value (I32 z)) (signed-payload v h)
@@ -78,14 +80,11 @@ module _ (v : CoreValue) (p : ℕ) where
 
   quad-back : quadValue p ≡ Value v → wordOf v ≡ register 1 p
   unfolding wordOf
-  quad-back q = by (ℕ-discrete p 0) (ℕ-discrete p 1) (ℕ-discrete p 2) (ℕ-discrete p 3)
+  quad-back q = by (stateAt p) refl
     where
-      by : Dec (p ≡ 0) → Dec (p ≡ 1) → Dec (p ≡ 2) → Dec (p ≡ 3) → wordOf v ≡ register 1 p
-      by (yes e) b c d = same {u = Quad N} (rw (eq-eqb p 0 e) at q) (rw e)
-      by (no f) (yes e) c d = same {u = Quad F} (rw (ne-eqb p 0 f, eq-eqb p 1 e) at q) (rw e)
-      by (no f) (no g) (yes e) d = same {u = Quad T} (rw (ne-eqb p 0 f, ne-eqb p 1 g, eq-eqb p 2 e) at q) (rw e)
-      by (no f) (no g) (no h) (yes e) = same {u = Quad S} (rw (ne-eqb p 0 f, ne-eqb p 1 g, ne-eqb p 2 h, eq-eqb p 3 e) at q) (rw e)
-      by (no f) (no g) (no h) (no k) = none (rw (ne-eqb p 0 f, ne-eqb p 1 g, ne-eqb p 2 h, ne-eqb p 3 k) at q)
+      by : (x : QuadFound) → stateAt p ≡ x → wordOf v ≡ register 1 p
+      by (State u) e = same {u = Quad u} (rw e at q) (ap (register 1) (state-bits p u e))
+      by NoState e = none (rw e at q)
 
   abbrev Back : ℕ → Type 0
   Back k = valueOfKind k p ≡ Value v → wordOf v ≡ register k p
@@ -131,13 +130,11 @@ unit-filled p h = record { value = Unit; held = tt; is = let e : 0 ≡ p = omega
 
 quad-filled : Filled 1
 unfolding wordOf
-quad-filled p h = by (ℕ-discrete p 0) (ℕ-discrete p 1) (ℕ-discrete p 2)
+quad-filled p h =
+    each (λ k. HoldsValue (register 1 k)) 0 4 p (quad-held N & quad-held F & quad-held T & quad-held S & tt) (omega arith) h
   where
-    by : Dec (p ≡ 0) → Dec (p ≡ 1) → Dec (p ≡ 2) → HoldsValue (register 1 p)
-    by (yes e) b c = record { value = Quad N; held = tt; is = ap (register 1) (sym e) }
-    by (no f) (yes e) c = record { value = Quad F; held = tt; is = ap (register 1) (sym e) }
-    by (no f) (no g) (yes e) = record { value = Quad T; held = tt; is = ap (register 1) (sym e) }
-    by (no f) (no g) (no k) = record { value = Quad S; held = tt; is = let e : 3 ≡ p = omega arith in ap (register 1) e }
+    quad-held : (q : QuadState) → HoldsValue (register 1 (quadBits q))
+    quad-held q = record { value = Quad q; held = tt; is = refl }
 
 bool-filled : Filled 2
 unfolding wordOf
@@ -165,10 +162,7 @@ filled k =
 -- ---- a value's payload is one of its kind's, and has 32 bits
 pub payload-within : (v : CoreValue) → Held v → payloadOf v < payloads (kindOf v)
 payload-within Unit h = omega arith
-payload-within (Quad N) h = omega arith
-payload-within (Quad F) h = omega arith
-payload-within (Quad T) h = omega arith
-payload-within (Quad S) h = omega arith
+payload-within (Quad q) h = quad-small q
 payload-within (Bool true) h = omega arith
 payload-within (Bool false) h = omega arith
 payload-within (I32 v) h = payload-small v h

@@ -5,8 +5,9 @@ use Prim.Native.Nat.{ℕ, _+_, _*_, _/_, _%_, _^_, _<_}
 use lib.Dec.{eqb}
 use lib.Signed.{mag}
 use Rattle.basis.specs.Choice.{pick}
-use Rattle.quad.specs.declared.QuadState.the-variants.{N, F, T, S}
-use Rattle.quad.specs.Quad.{quadBits}
+use Rattle.quad.specs.declared.QuadFound.{QuadFound}
+use Rattle.quad.specs.declared.QuadFound.the-variants.{State, NoState}
+use Rattle.quad.specs.Quad.{quadBits, stateAt}
 use Rattle.value.specs.declared.word.CoreValue.{CoreValue}
 use Rattle.value.specs.declared.word.CoreValue.the-variants.{Unit, Quad, Bool, I32, U32, Fx, Tuple, Record, Adt}
 use Rattle.value.specs.declared.word.WordFound.{WordFound}
@@ -98,10 +99,12 @@ pub record HoldsValue (word : ℕ) : Type 0 where
 abbrev pub unitValue : ℕ → WordFound
 unitValue p = pick (eqb p 0) (Value Unit) NoValue
 
+abbrev pub quadFound : QuadFound → WordFound
+quadFound (State q) = Value (Quad q)
+quadFound NoState = NoValue
+
 abbrev pub quadValue : ℕ → WordFound
-quadValue p =
-    pick (eqb p 0) (Value (Quad N))
-    (pick (eqb p 1) (Value (Quad F)) (pick (eqb p 2) (Value (Quad T)) (pick (eqb p 3) (Value (Quad S)) NoValue)))
+quadValue p = quadFound (stateAt p)
 
 abbrev pub boolValue : ℕ → WordFound
 boolValue p = pick (eqb p 0) (Value (Bool false)) (pick (eqb p 1) (Value (Bool true)) NoValue)

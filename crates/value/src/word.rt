@@ -1,9 +1,29 @@
 // Values and the register words that hold them: kind times 2^32 plus a payload of 32 bits.
 use crate::checked;
 use crate::fx::Fx;
+use quad::QuadFound;
 use quad::QuadState;
 ghost use mathlib.Core.Path.{_≡_};
 ghost use Rattle.value.specs.Value.{kindOf, payloadOf, wordOf, valueAt, quadValue, boolValue, unitValue};
+
+// The numbers of the kinds.
+pub const KIND_UNIT: u8 = 0;
+
+pub const KIND_QUAD: u8 = 1;
+
+pub const KIND_BOOL: u8 = 2;
+
+pub const KIND_I32: u8 = 3;
+
+pub const KIND_U32: u8 = 4;
+
+pub const KIND_FX: u8 = 5;
+
+pub const KIND_TUPLE: u8 = 6;
+
+pub const KIND_RECORD: u8 = 7;
+
+pub const KIND_ADT: u8 = 8;
 
 pub struct TupleRef(pub u32);
 
@@ -34,15 +54,15 @@ impl CoreValue {
         ensures { λ r. ⌜ r ≡ kindOf self ⌝ }
     {
         match self {
-            CoreValue::Unit => 0,
-            CoreValue::Quad(_) => 1,
-            CoreValue::Bool(_) => 2,
-            CoreValue::I32(_) => 3,
-            CoreValue::U32(_) => 4,
-            CoreValue::Fx(_) => 5,
-            CoreValue::Tuple(_) => 6,
-            CoreValue::Record(_) => 7,
-            CoreValue::Adt(_) => 8,
+            CoreValue::Unit => KIND_UNIT,
+            CoreValue::Quad(_) => KIND_QUAD,
+            CoreValue::Bool(_) => KIND_BOOL,
+            CoreValue::I32(_) => KIND_I32,
+            CoreValue::U32(_) => KIND_U32,
+            CoreValue::Fx(_) => KIND_FX,
+            CoreValue::Tuple(_) => KIND_TUPLE,
+            CoreValue::Record(_) => KIND_RECORD,
+            CoreValue::Adt(_) => KIND_ADT,
         }
     }
 
@@ -97,15 +117,16 @@ fn unit_of(p: u32) -> WordFound
     }
 }
 
+// A payload above a byte is no quad's.
 fn quad_of(p: u32) -> WordFound
     ensures { λ r. ⌜ r ≡ quadValue p ⌝ }
 {
-    match p {
-        0 => WordFound::Value(CoreValue::Quad(QuadState::N)),
-        1 => WordFound::Value(CoreValue::Quad(QuadState::F)),
-        2 => WordFound::Value(CoreValue::Quad(QuadState::T)),
-        3 => WordFound::Value(CoreValue::Quad(QuadState::S)),
-        _ => WordFound::NoValue,
+    if 255 < p {
+        return WordFound::NoValue;
+    }
+    match QuadState::from_bits(p as u8) {
+        QuadFound::State(q) => WordFound::Value(CoreValue::Quad(q)),
+        QuadFound::NoState => WordFound::NoValue,
     }
 }
 

@@ -1,21 +1,31 @@
-use borrow.Author.Tests.{ne-eqb}
+use native.Mathlib.Omega.{arith}
+use Rattle.quad.proofs.Bits.{no-state}
+use borrow.Author.Needs.{needs}
 use Rattle.value.proofs.word.quad_of.Statement.{statement}
 use Rattle.value.proofs.word.quad_of.Tie as tie
 
 returns : tie.Need-returns
-returns c = rw (c .match .keys1)
+returns c = rw (no-state (c .before .args .p) (omega arith))
+
+cast-from-bits : tie.Need-cast-from-bits
+cast-from-bits c = search needs
+
+from-bits-requires : tie.Need-from-bits-requires
+from-bits-requires c κs = search needs
+
+enum-known-q : tie.Need-enum-known-q
+enum-known-q c = search needs
+
+enum-told : tie.Need-enum-told
+enum-told c = search needs
 
 returns-2 : tie.Need-returns-2
-returns-2 c = rw (c .match .keys2)
+returns-2 c = rw (← c .before .before .before .from-bits .ensures, c .before .q .given .1)
 
 returns-3 : tie.Need-returns-3
-returns-3 c = rw (c .match .keys3)
-
-returns-4 : tie.Need-returns-4
-returns-4 c = rw (c .match .keys4)
-
-returns-5 : tie.Need-returns-5
-returns-5 c = rw (ne-eqb _ 0 (c .match .rest .0 .0 .0 .1), ne-eqb _ 1 (c .match .rest .0 .0 .1), ne-eqb _ 2 (c .match .rest .0 .1), ne-eqb _ 3 (c .match .rest .1))
+returns-3 c = rw (← c .before .before .from-bits .ensures, c .enum-told .given .1)
 
 pub quad-of-spec : {M : Type 1} → statement M
-quad-of-spec = tie.close (tie.spec returns returns-2 returns-3 returns-4 returns-5)
+quad-of-spec =
+    tie.close
+    (tie.spec returns cast-from-bits from-bits-requires enum-known-q enum-told returns-2 returns-3)
