@@ -31,7 +31,7 @@ abbrev pub Passes : (ℕ → Bool) → ℕ → ℕ → Bool
 Passes test lo zero = true
 Passes test lo (suc n) = test lo && Passes test (suc lo) n
 
-both-true : (a b : Bool) → T (a && b) → T a × T b
+pub both-true : (a b : Bool) → T (a && b) → T a × T b
 both-true true b t = (tt, t)
 both-true false b t = absurd t
 

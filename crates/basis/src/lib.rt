@@ -1,7 +1,9 @@
-// What every layer above leans on: the choice by a test and the law of short ranges (in specs/ and proofs/), and the product
-// modulo 2^64, which the language does not supply.
+// What every layer above leans on: the choice by a test, answers as numbers and the laws of both (in specs/ and proofs/), numbers in
+// bytes, and the product modulo 2^64, which the language does not supply.
 ghost use mathlib.Core.Path.{_≡_};
 ghost use Prim.Native.Nat.{_*_, _%_, _^_};
+
+pub mod bytes;
 
 // Rust's `u64::wrapping_mul`: the product by halves of 32 bits, of which the upper half's upper half is never needed.
 pub fn wrapping_mul_u64(a: u64, b: u64) -> u64

@@ -1,70 +1,16 @@
 //! The fixed list of operations: what `oracle operate-cases` writes.
 //!
-//! The list depends on nothing but this file: edge values, kinds and missing
-//! registers in full, then random pairs from a generator with a fixed seed.
+//! The list depends on nothing but this file, the edges and the generator: edge
+//! values, kinds and missing registers in full, then random pairs from a fixed
+//! seed.
 
 use std::collections::HashSet;
 use std::io::{self, BufWriter, Write};
 
+use crate::edges::{edges, own_kind, KINDS};
 use crate::operate::{one_operand, Case};
+use crate::random::SplitMix64;
 use crate::word::{word, BOOL, FX, I32, QUAD, U32, UNIT};
-
-const KINDS: [u64; 6] = [UNIT, QUAD, BOOL, I32, U32, FX];
-
-/// 46,340 is the largest number whose square fits; 32,768 times 65,536 is the
-/// first power of two that does not, while its negative does.
-const I32_EDGES: [i32; 15] = [
-    i32::MIN,
-    i32::MIN + 1,
-    -65_536,
-    -46_341,
-    -32_768,
-    -2,
-    -1,
-    0,
-    1,
-    2,
-    32_768,
-    46_340,
-    65_536,
-    i32::MAX - 1,
-    i32::MAX,
-];
-
-/// 65,535 times 65,537 is the largest number of all, 65,536 squared one more.
-const U32_EDGES: [u32; 12] = [
-    0,
-    1,
-    2,
-    3,
-    65_535,
-    65_536,
-    65_537,
-    (1 << 31) - 1,
-    1 << 31,
-    (1 << 31) + 1,
-    u32::MAX - 1,
-    u32::MAX,
-];
-
-/// Raw units: 65,536 is one, 32,768 a half, 131,072 two.
-const FX_EDGES: [i32; 15] = [
-    i32::MIN,
-    i32::MIN + 1,
-    -131_072,
-    -65_537,
-    -65_536,
-    -32_768,
-    -1,
-    0,
-    1,
-    32_768,
-    65_535,
-    65_536,
-    131_072,
-    i32::MAX - 1,
-    i32::MAX,
-];
 
 const RANDOM_PAIRS: usize = 3_000;
 const SEED: u64 = 0x6b6e_6974_0000_0001;
@@ -211,38 +157,10 @@ fn add_random(list: &mut List) {
         if list.cases.len() == wanted {
             return;
         }
-        let lhs = random.operand(opcode);
-        let rhs = random.operand(opcode);
+        let lhs = operand(&mut random, opcode);
+        let rhs = operand(&mut random, opcode);
         list.add_pair(opcode, Some(lhs), Some(rhs));
     }
-}
-
-/// The kind of an opcode's operands. Move takes any.
-fn own_kind(opcode: u8) -> Option<u64> {
-    match opcode {
-        9..=17 => Some(QUAD),
-        18..=22 => Some(BOOL),
-        23..=31 => Some(I32),
-        32..=40 => Some(U32),
-        41..=49 => Some(FX),
-        _ => None,
-    }
-}
-
-/// The register words of a kind's edge values.
-fn edges(kind: u64) -> Vec<u64> {
-    let payloads: Vec<u32> = match kind {
-        QUAD => (0..4).collect(),
-        BOOL => (0..2).collect(),
-        I32 => I32_EDGES.iter().map(|edge| *edge as u32).collect(),
-        U32 => U32_EDGES.to_vec(),
-        FX => FX_EDGES.iter().map(|edge| *edge as u32).collect(),
-        _ => vec![0],
-    };
-    payloads
-        .into_iter()
-        .map(|payload| word(kind, payload))
-        .collect()
 }
 
 /// For each kind one zero and one non-zero payload; Unit has only the one.
@@ -262,51 +180,34 @@ fn representatives() -> [u64; 11] {
     ]
 }
 
-/// The well-known generator of this name: small, and the same everywhere.
-struct SplitMix64(u64);
+/// An operand of the opcode's own kind, but for one in sixteen.
+fn operand(random: &mut SplitMix64, opcode: u8) -> u64 {
+    let any = KINDS[random.below(6) as usize];
+    let stray = random.below(16) == 0;
+    let kind = own_kind(opcode).filter(|_| !stray).unwrap_or(any);
+    let payload = match kind {
+        UNIT => 0,
+        QUAD => random.below(4) as u32,
+        BOOL => random.below(2) as u32,
+        _ => payload(random, kind),
+    };
+    word(kind, payload)
+}
 
-impl SplitMix64 {
-    fn next(&mut self) -> u64 {
-        self.0 = self.0.wrapping_add(0x9e37_79b9_7f4a_7c15);
-        let mut z = self.0;
-        z = (z ^ (z >> 30)).wrapping_mul(0xbf58_476d_1ce4_e5b9);
-        z = (z ^ (z >> 27)).wrapping_mul(0x94d0_49bb_1331_11eb);
-        z ^ (z >> 31)
+/// Half of them over the full range. The rest have few bits, so that products
+/// fit, quotients are not all 0 and equal operands occur; signed kinds take
+/// both signs.
+fn payload(random: &mut SplitMix64, kind: u64) -> u32 {
+    let full = random.next() as u32;
+    if random.below(2) == 0 {
+        return full;
     }
-
-    fn below(&mut self, bound: u64) -> u64 {
-        self.next() % bound
-    }
-
-    /// An operand of the opcode's own kind, but for one in sixteen.
-    fn operand(&mut self, opcode: u8) -> u64 {
-        let any = KINDS[self.below(6) as usize];
-        let stray = self.below(16) == 0;
-        let kind = own_kind(opcode).filter(|_| !stray).unwrap_or(any);
-        let payload = match kind {
-            UNIT => 0,
-            QUAD => self.below(4) as u32,
-            BOOL => self.below(2) as u32,
-            _ => self.payload(kind),
-        };
-        word(kind, payload)
-    }
-
-    /// Half of them over the full range. The rest have few bits, so that
-    /// products fit, quotients are not all 0 and equal operands occur; signed
-    /// kinds take both signs.
-    fn payload(&mut self, kind: u64) -> u32 {
-        let full = self.next() as u32;
-        if self.below(2) == 0 {
-            return full;
-        }
-        let small = full >> (1 + self.below(31));
-        let negative = kind != U32 && self.below(2) == 0;
-        if negative {
-            small.wrapping_neg()
-        } else {
-            small
-        }
+    let small = full >> (1 + random.below(31));
+    let negative = kind != U32 && random.below(2) == 0;
+    if negative {
+        small.wrapping_neg()
+    } else {
+        small
     }
 }
 

@@ -7,17 +7,7 @@ use std::env;
 use std::io::{self, BufReader};
 use std::process::ExitCode;
 
-mod answer;
-mod cases;
-mod image;
-mod lines;
-mod operate;
-mod run;
-#[cfg(test)]
-mod sample;
-mod text;
-mod verdict;
-mod word;
+use oracle::{answer, cases, lines, operate};
 
 fn main() -> ExitCode {
     let arguments: Vec<String> = env::args().skip(1).collect();

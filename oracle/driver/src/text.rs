@@ -38,6 +38,20 @@ pub fn hex_bytes(field: &[u8]) -> Option<Vec<u8>> {
         .collect()
 }
 
+/// The spelling that `hex_bytes` reads.
+pub fn hex(bytes: &[u8]) -> String {
+    if bytes.is_empty() {
+        return "-".to_string();
+    }
+    let mut text = String::with_capacity(2 * bytes.len());
+    for byte in bytes {
+        for half in [byte >> 4, byte & 15] {
+            text.extend(char::from_digit(half.into(), 16));
+        }
+    }
+    text
+}
+
 fn digit(byte: u8) -> Option<u8> {
     match byte {
         b'0'..=b'9' => Some(byte - b'0'),
@@ -85,5 +99,13 @@ mod tests {
         for bad in ["", "0", "000", "0F", "--", "zz"] {
             assert_eq!(hex_bytes(bad.as_bytes()), None, "{bad:?}");
         }
+    }
+
+    #[test]
+    fn hex_is_what_hex_bytes_reads() {
+        assert_eq!(hex(&[]), "-");
+        assert_eq!(hex(&[0, 255, 16]), "00ff10");
+        let bytes: Vec<u8> = (0..=255).collect();
+        assert_eq!(hex_bytes(hex(&bytes).as_bytes()), Some(bytes));
     }
 }

@@ -1,8 +1,85 @@
-//! The answer to a `validate` line: the Rust's verdict by document 01's numbers.
+//! The Rust's verdict by document 01's numbers: the answer to a `validate`
+//! line, and the one that an engine's answer is compared with.
+
+use std::fmt;
 
 use semantic_core_exec::{validate_program, CoreProgram, CoreValidationError};
 use semantic_core_runtime::{CoreAdmissionProfile, CoreProfileError};
 
+use crate::image;
+
+/// Every number that asking for admission may give, with its name. Document 01
+/// has no number for an admitted program; 0 is its place here.
+pub const NAMES: [(u64, &str); 17] = [
+    (0, "admitted"),
+    (1, "Short"),
+    (2, "Form"),
+    (3, "Layout"),
+    (4, "FunctionTable"),
+    (5, "Instruction"),
+    (10, "Profile"),
+    (11, "EmptyProgram"),
+    (12, "InvalidEntry"),
+    (13, "TooManyFunctions"),
+    (14, "TooManyRegisters"),
+    (15, "TooManyInstructions"),
+    (16, "InvalidRegister"),
+    (17, "InvalidJump"),
+    (18, "InvalidCall"),
+    (19, "MissingReturn"),
+    (20, "InvalidArgWindow"),
+];
+
+/// What asking for admission gives: the number, and the answer's values in
+/// document 01's order with zeros after them.
+#[derive(Debug, Clone, Copy, PartialEq, Eq)]
+pub struct Answer {
+    pub number: u64,
+    pub words: [u64; 5],
+}
+
+impl Answer {
+    /// Takes at most five values, and no answer has more than three.
+    pub fn new(number: u64, values: &[u64]) -> Self {
+        let mut words = [0; 5];
+        words[..values.len()].copy_from_slice(values);
+        Self { number, words }
+    }
+
+    /// The name, or nothing for a number that is not in the table.
+    pub fn name(&self) -> Option<&'static str> {
+        let entry = NAMES.iter().find(|(number, _)| *number == self.number);
+        entry.map(|(_, name)| *name)
+    }
+}
+
+impl fmt::Display for Answer {
+    fn fmt(&self, f: &mut fmt::Formatter<'_>) -> fmt::Result {
+        let name = self.name().unwrap_or("no such number");
+        write!(f, "{} ({name}), words", self.number)?;
+        self.words.iter().try_for_each(|word| write!(f, " {word}"))
+    }
+}
+
+/// The answer for an image in bytes: its fault, or else the Rust's verdict.
+pub fn of_image(image: &[u8], profile: CoreAdmissionProfile) -> Answer {
+    match image::read(image) {
+        Ok(program) => of_program(&program, profile),
+        Err(fault) => Answer::new(fault.number().into(), &[fault.answer().into()]),
+    }
+}
+
+fn of_program(program: &CoreProgram, profile: CoreAdmissionProfile) -> Answer {
+    match validate_program(program, profile) {
+        Ok(()) => Answer::new(0, &[]),
+        Err(error) => {
+            let (number, fields) = numbers(&error);
+            Answer::new(number.into(), &fields)
+        }
+    }
+}
+
+/// `admitted`, or `refused NUMBER FIELD..`.
 pub fn answer(program: &CoreProgram, profile: CoreAdmissionProfile) -> String {
     match validate_program(program, profile) {
         Ok(()) => "admitted".to_string(),
@@ -18,7 +95,7 @@ pub fn answer(program: &CoreProgram, profile: CoreAdmissionProfile) -> String {
 }
 
 /// Document 01's number of a verdict and its fields in declaration order.
-fn numbers(error: &CoreValidationError) -> (u32, Vec<u64>) {
+pub fn numbers(error: &CoreValidationError) -> (u32, Vec<u64>) {
     use CoreValidationError as E;
     match error {
         E::Profile(fault) => (10, profile_fields(fault)),

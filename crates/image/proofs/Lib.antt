@@ -1,0 +1,6 @@
+pub mod Past
+pub mod Forms
+pub mod Checks
+pub mod Agree
+pub mod Parts
+pub mod Unique

@@ -1,0 +1,71 @@
+-- The first fault of an image, in the order: length, form, layout, all functions, all instructions.
+use Prim.Native.Nat.{ℕ, zero, suc, _+_}
+use mathlib.Core.Bool.{Bool, _&&_}
+use mathlib.Core.List.{List, [], _∷_}
+use lib.ListN.{length}
+use lib.Dec.{eqb, leb, ltb}
+use Rattle.basis.specs.Answers.{demand, orElse, firstOf}
+use Rattle.instr.specs.declared.Instr.{Instr}
+use Rattle.image.specs.Fields.{most, fieldsOf}
+use Rattle.image.specs.Records.{headerOf, functionNo, RecordLayout, functionPlace, instrPlace, instrNo}
+use Rattle.image.specs.declared.record.Header.{Header}
+use Rattle.image.specs.declared.ImageFault.{ImageFault}
+use Rattle.image.specs.declared.ImageFault.the-variants.{Short, Form, Layout, FunctionTable, Instruction}
+use Rattle.image.specs.declared.ImageCheck.{ImageCheck}
+use Rattle.image.specs.declared.ImageCheck.the-variants.{Fine, Fault}
+
+-- the paper's number of each fault, and what it answers with
+abbrev pub faultNumbers : ImageFault → List ℕ
+faultNumbers Short = 1 ∷ 0 ∷ []
+faultNumbers Form = 2 ∷ 0 ∷ []
+faultNumbers Layout = 3 ∷ 0 ∷ []
+faultNumbers (FunctionTable k) = 4 ∷ k ∷ []
+faultNumbers (Instruction k) = 5 ∷ k ∷ []
+
+abbrev pub checkNumbers : ImageCheck → List ℕ
+checkNumbers Fine = []
+checkNumbers (Fault f) = faultNumbers f
+
+-- both tables stand where their counts put them, and the image ends where the instructions do
+unfoldable pub layoutHolds : RecordLayout → Header → ℕ → Bool
+layoutHolds layout h len =
+    let end = instrPlace layout (h .functions) (h .instructions) in
+    eqb (h .table) (functionPlace 0) && (eqb (h .code) (functionPlace (h .functions)) && (eqb (h .total) end && eqb len end))
+
+-- how many instructions the first k functions have
+unfoldable pub before : List ℕ → ℕ → ℕ
+before bytes zero = 0
+before bytes (suc k) = before bytes k + functionNo bytes k .count
+
+-- a function starts where the one before it ended
+unfoldable pub functionFault : List ℕ → ℕ → List ℕ
+functionFault bytes k =
+    let f = functionNo bytes k in
+    demand (eqb (f .zero) 0 && eqb (f .first) (before bytes k)) (4 ∷ k ∷ [])
+
+-- the functions one by one, then that they have as many instructions as there are
+unfoldable pub tableFault : List ℕ → ℕ → ℕ → List ℕ
+tableFault bytes functions instructions =
+    orElse (firstOf (functionFault bytes) functions)
+    (demand (eqb (before bytes functions) instructions) (4 ∷ functions ∷ []))
+
+-- an opcode, and each field at most what its use lets it be
+unfoldable pub within : Instr → ℕ → ℕ → ℕ → ℕ → ℕ → Bool
+within i small a b c w = leb (i .small) small && (leb (i .a) a && (leb (i .b) b && (leb (i .c) c && leb (i .w) w)))
+
+unfoldable pub recordHolds : Instr → Bool
+recordHolds i =
+    let u = fieldsOf (i .op) in
+    ltb (i .op) 56 && within i (most (u .small)) (most (u .a)) (most (u .b)) (most (u .c)) (most (u .w))
+
+unfoldable pub recordFault : (ℕ → Instr) → ℕ → List ℕ
+recordFault instr k = demand (recordHolds (instr k)) (5 ∷ k ∷ [])
+
+unfoldable pub imageFault : RecordLayout → List ℕ → List ℕ
+imageFault layout bytes =
+    let h = headerOf bytes in
+    orElse (demand (leb 24 (length bytes)) (faultNumbers Short))
+    (orElse (demand (eqb (h .form) (layout .form)) (faultNumbers Form))
+    (orElse (demand (layoutHolds layout h (length bytes)) (faultNumbers Layout))
+    (orElse (tableFault bytes (h .functions) (h .instructions))
+    (firstOf (recordFault (instrNo layout bytes)) (h .instructions)))))

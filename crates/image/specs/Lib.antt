@@ -1,0 +1,5 @@
+pub mod Fields
+pub mod Records
+pub mod Image
+pub mod WellFormed
+pub mod Program

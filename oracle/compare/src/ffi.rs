@@ -1,0 +1,38 @@
+//! Our engine, as its archive exports it. All that is unsafe stands here.
+
+use semantic_core_runtime::CoreAdmissionProfile;
+
+extern "C" {
+    fn knit_validate(
+        image: *const u8,
+        image_len: usize,
+        max_registers: u16,
+        max_functions: u16,
+        max_call_depth: u16,
+        max_instrs_per_function: u32,
+        max_fuel: u64,
+        answer: *mut u64,
+    ) -> u64;
+}
+
+/// Asks our engine whether an image is admitted under a profile.
+///
+/// The engine has to leave the image as it is. It is lent as if it could be
+/// changed, so that a change is something to be seen and not undefined.
+pub fn validate(image: &mut [u8], profile: CoreAdmissionProfile, answer: &mut [u64; 5]) -> u64 {
+    // SAFETY: the image's pointer and length come from one slice, the answer
+    // has the five words that the call writes, both are lent to nobody else
+    // until the call is over, and it keeps neither.
+    unsafe {
+        knit_validate(
+            image.as_mut_ptr(),
+            image.len(),
+            profile.max_registers,
+            profile.max_functions,
+            profile.max_call_depth,
+            profile.max_instrs_per_function,
+            profile.max_fuel,
+            answer.as_mut_ptr(),
+        )
+    }
+}

@@ -1,0 +1,23 @@
+//! Asks the original Rust engine, built unchanged, for its answers, and makes
+//! the programs to ask about.
+//!
+//! A library, so that what compares another engine with the Rust shares the
+//! image reader, the numbers and the programs.
+
+pub mod answer;
+pub mod cases;
+pub mod edges;
+pub mod fields;
+pub mod generate;
+pub mod image;
+pub mod lines;
+pub mod operate;
+pub mod program;
+pub mod random;
+pub mod records;
+pub mod run;
+#[cfg(test)]
+mod sample;
+pub mod text;
+pub mod verdict;
+pub mod word;
