@@ -6,7 +6,8 @@ use mathlib.Core.Logic.{⊎-elim}
 use native.Mathlib.Nat.{eq-or-lt-of-le, le-of-suc-le-suc, not-suc-le-zero}
 use native.Mathlib.Numerals.{add-one}
 use native.Mathlib.Omega.{arith}
-use Rattle.basis.specs.Answers.{orElse, firstOf}
+use mathlib.Core.Bool.{true, false}
+use Rattle.basis.specs.Answers.{isFine, orElse, firstOf}
 
 pub or-nothing : (a : List ℕ) → orElse a [] ≡ a
 or-nothing [] = refl
@@ -16,6 +17,20 @@ or-nothing (n ∷ ns) = refl
 pub or-split : (a b : List ℕ) → orElse a b ≡ [] → (a ≡ []) × (b ≡ [])
 or-split [] b e = (refl, e)
 or-split (n ∷ ns) b e = let z : _≡_ {A = ℕ} 0 1 = cc in absurd (omega arith)
+
+-- an answer that finds nothing is the empty one
+pub fine-nothing : (a : List ℕ) → isFine a ≡ true → a ≡ []
+fine-nothing [] e = refl
+fine-nothing (n ∷ ns) e = cc
+
+-- the first of two by the test of the first
+pub or-fine : (a b : List ℕ) → isFine a ≡ true → orElse a b ≡ b
+or-fine [] b e = refl
+or-fine (n ∷ ns) b e = cc
+
+pub or-unfine : (a b : List ℕ) → isFine a ≡ false → orElse a b ≡ a
+or-unfine [] b e = cc
+or-unfine (n ∷ ns) b e = refl
 
 module _ (f : ℕ → List ℕ) where
   -- the start of a loop
@@ -39,6 +54,14 @@ module _ (f : ℕ → List ℕ) where
   pub first-here : (i n x : ℕ) (xs : List ℕ) → i < n → firstOf f i ≡ [] → f i ≡ x ∷ xs → firstOf f n ≡ x ∷ xs
   unfolding firstOf
   first-here i n x xs l p q = first-kept (suc i) n x xs l (rw p q)
+
+  -- both turns, where the answer at i came from a call
+  pub first-next : (i : ℕ) (a : List ℕ) → firstOf f i ≡ [] → a ≡ f i → isFine a ≡ true → firstOf f (i + 1) ≡ []
+  first-next i a p q e = first-more i p (sym q ∙ fine-nothing a e)
+
+  pub first-found : (i n : ℕ) (a : List ℕ) → i < n → firstOf f i ≡ [] → a ≡ f i → isFine a ≡ false → a ≡ firstOf f n
+  first-found i n [] l p q e = cc
+  first-found i n (x ∷ xs) l p q e = sym (first-here i n x xs l p (sym q))
 
   -- nothing is found exactly where no place has anything wrong
   pub first-all : (n : ℕ) → ((k : ℕ) → k < n → f k ≡ []) → firstOf f n ≡ []

@@ -1,9 +1,14 @@
 -- Answers as the paper's numbers: [] where nothing is wrong, else a number and its values. An enum that answers has one definition
 -- that gives these numbers for each of its cases, and its function's promise is made through that definition.
 use Prim.Native.Nat.{ℕ, zero, suc}
-use mathlib.Core.Bool.{Bool}
+use mathlib.Core.Bool.{Bool, true, false}
 use mathlib.Core.List.{List, [], _∷_}
 use Rattle.basis.specs.Choice.{pick}
+
+-- the answer finds nothing wrong
+abbrev pub isFine : List ℕ → Bool
+isFine [] = true
+isFine (n ∷ ns) = false
 
 -- nothing is wrong where the test holds; else this answer
 abbrev pub demand : Bool → List ℕ → List ℕ

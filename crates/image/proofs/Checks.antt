@@ -6,7 +6,7 @@ use mathlib.Core.List.{List, [], _∷_}
 use lib.ListN.{length}
 use native.Mathlib.Numerals.{add-one}
 use borrow.Author.Tests.{eq-eqb, ne-eqb, le-leb, lt-leb}
-use Rattle.basis.specs.Answers.{orElse, firstOf}
+use Rattle.basis.specs.Answers.{isFine, orElse, firstOf}
 use Rattle.basis.proofs.First.{first-more, first-here}
 use Rattle.instr.specs.declared.Instr.{Instr}
 use Rattle.image.specs.Records.{headerOf, functionNo, RecordLayout, instrPlace, instrNo}
@@ -62,6 +62,13 @@ fault-first Form b = refl
 fault-first Layout b = refl
 fault-first (FunctionTable k) b = refl
 fault-first (Instruction k) b = refl
+
+pub fault-unfine : (f : ImageFault) → false ≡ isFine (faultNumbers f)
+fault-unfine Short = refl
+fault-unfine Form = refl
+fault-unfine Layout = refl
+fault-unfine (FunctionTable k) = refl
+fault-unfine (Instruction k) = refl
 
 module _ (L : RecordLayout) (s : List ℕ) where
   pub at-short : length s < 24 → faultNumbers Short ≡ imageFault L s

@@ -41,13 +41,13 @@ before bytes (suc k) = before bytes k + functionNo bytes k .count
 unfoldable pub functionFault : List ℕ → ℕ → List ℕ
 functionFault bytes k =
     let f = functionNo bytes k in
-    demand (eqb (f .zero) 0 && eqb (f .first) (before bytes k)) (4 ∷ k ∷ [])
+    demand (eqb (f .zero) 0 && eqb (f .first) (before bytes k)) (faultNumbers (FunctionTable k))
 
 -- the functions one by one, then that they have as many instructions as there are
 unfoldable pub tableFault : List ℕ → ℕ → ℕ → List ℕ
 tableFault bytes functions instructions =
     orElse (firstOf (functionFault bytes) functions)
-    (demand (eqb (before bytes functions) instructions) (4 ∷ functions ∷ []))
+    (demand (eqb (before bytes functions) instructions) (faultNumbers (FunctionTable functions)))
 
 -- an opcode, and each field at most what its use lets it be
 unfoldable pub within : Instr → ℕ → ℕ → ℕ → ℕ → ℕ → Bool
@@ -59,7 +59,7 @@ recordHolds i =
     ltb (i .op) 56 && within i (most (u .small)) (most (u .a)) (most (u .b)) (most (u .c)) (most (u .w))
 
 unfoldable pub recordFault : (ℕ → Instr) → ℕ → List ℕ
-recordFault instr k = demand (recordHolds (instr k)) (5 ∷ k ∷ [])
+recordFault instr k = demand (recordHolds (instr k)) (faultNumbers (Instruction k))
 
 unfoldable pub imageFault : RecordLayout → List ℕ → List ℕ
 imageFault layout bytes =

@@ -40,7 +40,7 @@ record-holds-requires : tie.Need-record-holds-requires Inv-loop μ-loop
 record-holds-requires c κs = refl
 
 returns : tie.Need-returns Inv-loop μ-loop
-returns c = record-wrong _ _ _ (c .before .before .instr-at .ensures) (c .before .before .before .before .loop .inv .1) _ (omega arith) (sym (c .before .record-holds .ensures) ∙ not-true _ (c .if1 .taken))
+returns c = record-wrong _ _ _ (c .before .before .instr-at .ensures .0) (c .before .before .before .before .loop .inv .1) _ (omega arith) (sym (c .before .record-holds .ensures) ∙ not-true _ (c .if1 .taken))
 
 add-k : tie.Need-add-k Inv-loop μ-loop
 add-k c = omega arith
@@ -49,7 +49,7 @@ loop-less : tie.Need-loop-less Inv-loop μ-loop
 loop-less c = omega arith
 
 loop-again : tie.Need-loop-again Inv-loop μ-loop
-loop-again c = (omega arith, record-right _ _ _ (c .before .before .instr-at .ensures) (c .before .before .before .before .loop .inv .1) (sym (c .before .record-holds .ensures) ∙ not-false _ (c .if1 .left)))
+loop-again c = (omega arith, record-right _ _ _ (c .before .before .instr-at .ensures .0) (c .before .before .before .before .loop .inv .1) (sym (c .before .record-holds .ensures) ∙ not-false _ (c .if1 .left)))
 
 returns-2 : tie.Need-returns-2 Inv-loop μ-loop
 returns-2 c = let e : c .before .loop .k ≡ c .before .before .before .args .instructions = omega arith in

@@ -1,3 +1,4 @@
+use native.Mathlib.Omega.{arith}
 use Rattle.image.specs.Records.{twelve}
 use mathlib.Core.Path.{sym}
 use Rattle.image.proofs.Past.{instr-past}
@@ -6,7 +7,7 @@ use Rattle.image.proofs.record.instr_at.Statement.{statement}
 use Rattle.image.proofs.record.instr_at.Tie as tie
 
 returns : tie.Need-returns
-returns c = sym (instr-past _ _ (c .if1 .taken))
+returns c = (sym (instr-past _ _ (c .if1 .taken)), (omega arith, omega arith, omega arith))
 
 u8-at-requires : tie.Need-u8-at-requires
 u8-at-requires c κs = search needs
@@ -52,7 +53,7 @@ u32-at-requires c κs = search needs
 
 returns-2 : tie.Need-returns-2
 unfolding twelve
-returns-2 c = rw (← c .before .before .before .before .before .u8-at .ensures, ← c .before .before .before .before .u8-at2 .ensures, ← c .before .before .before .u16-at .ensures, ← c .before .before .u16-at2 .ensures, ← c .before .u16-at3 .ensures, ← c .u32-at .ensures)
+returns-2 c = (rw (← c .before .before .before .before .before .u8-at .ensures, ← c .before .before .before .before .u8-at2 .ensures, ← c .before .before .before .u16-at .ensures, ← c .before .before .u16-at2 .ensures, ← c .before .u16-at3 .ensures, ← c .u32-at .ensures), (omega arith, omega arith, omega arith))
 
 pub instr-at-spec : {M : Type 1} → statement M
 instr-at-spec =

@@ -1,0 +1,4 @@
+pub mod Parts
+pub mod Operands
+pub mod Functions
+pub mod Programs
