@@ -11,6 +11,10 @@ fn main() {
     let Some(folder) = env::var_os("KNIT_ARCHIVE") else {
         stop("KNIT_ARCHIVE is not set; it must name the folder that holds libcapi.a");
     };
+    // A build script runs in its own folder, not where cargo was called.
+    if !Path::new(&folder).is_absolute() {
+        stop("KNIT_ARCHIVE must name its folder by an absolute path");
+    }
     let Ok(archive) = Path::new(&folder).join(NAME).canonicalize() else {
         stop("the folder that KNIT_ARCHIVE names holds no libcapi.a");
     };

@@ -34,8 +34,7 @@ placed s functions first j e =
 -- all three, by a function record that was read
 pub numbers : (L : RecordLayout) (s : List ℕ) (k functions : ℕ) (f : FunctionRecord) → functions ≡ headerOf s .functions → k < functions → f ≡ functionNo s k → (regsOf (decode L s) k ≡ f .regs) × (lengthOf (decode L s) k ≡ f .count) × (functionsOf (decode L s) ≡ functions)
 numbers L s k functions f e l h =
-    let q : k < headerOf s .functions = omega arith in
-    (
+    let q : k < headerOf s .functions = omega arith in (
       regs-in L s k q ∙ ap (λ (g : FunctionRecord). g .regs) (sym h),
       length-in L s k q ∙ ap (λ (g : FunctionRecord). g .count) (sym h),
       functions-length L s ∙ sym e,

@@ -91,7 +91,14 @@ fn check_call(image: &[u8], functions: u32, k: usize, regs: usize, i: Instr) -> 
 }
 
 // Instruction i of function k, whose record is f.
-pub fn check_instr(image: &[u8], functions: u32, k: usize, f: FunctionRecord, op: u8, i: Instr) -> CoreValidation
+pub fn check_instr(
+    image: &[u8],
+    functions: u32,
+    k: usize,
+    f: FunctionRecord,
+    op: u8,
+    i: Instr,
+) -> CoreValidation
     requires { ⌜ functions ≡ headerOf (now image) .functions ⌝ }
     requires { ⌜ (k < functions) × (f ≡ functionNo (now image) k) ⌝ }
     requires { ⌜ (op ≡ i .op) × (i .c < 2 ^ 16) ⌝ }

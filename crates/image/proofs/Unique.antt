@@ -12,19 +12,12 @@ use Rattle.image.specs.declared.ImageFault.the-variants.{Short, Form, La
 use Rattle.image.specs.declared.ImageCheck.{ImageCheck}
 use Rattle.image.specs.declared.ImageCheck.the-variants.{Fine, Fault}
 
-pub faultOf : List ℕ → ImageFault
+-- the fault that has these numbers
+unfoldable pub faultOf : List ℕ → ImageFault
 faultOf ns =
     let is : ℕ → Bool = λ n. eqb (getD ns 0 0) n in
     pick (is 1) Short
     (pick (is 2) Form (pick (is 3) Layout (pick (is 4) (FunctionTable (getD ns 1 0)) (Instruction (getD ns 1 0)))))
-
-pub fault-back : (f : ImageFault) → faultOf (faultNumbers f) ≡ f
-unfolding faultOf
-fault-back Short = refl
-fault-back Form = refl
-fault-back Layout = refl
-fault-back (FunctionTable k) = refl
-fault-back (Instruction k) = refl
 
 checkOf : List ℕ → ImageCheck
 checkOf ns = pick (eqb (getD ns 0 0) 0) Fine (Fault (faultOf ns))

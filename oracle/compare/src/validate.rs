@@ -39,11 +39,11 @@ pub fn validate(
         tally.add(&expected);
     }
     write!(output, "{tally}")?;
+    writeln!(output, "compared {} programs: equal", tally.total())?;
     let missing = tally.missing();
     if !missing.is_empty() {
         writeln!(output, "never occurred: {}", missing.join(", "))?;
     }
-    writeln!(output, "compared {} programs: equal", tally.total())?;
     Ok(missing.is_empty())
 }
 

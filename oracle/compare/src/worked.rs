@@ -31,6 +31,7 @@ pub fn all() -> Vec<Worked> {
     list.document();
     list.sizes_of_safe();
     list.sizes_of_the_bounds();
+    list.far_instructions();
     list.zero_limits();
     list.unbounded_limits();
     list.program_as_a_whole();
@@ -111,9 +112,28 @@ impl List {
         );
         let values = [65_537, 4_096];
         self.add("65537 functions", BOUNDS, functions(65_537), 13, &values);
+        let image = patched(&functions(65_537), 24 + 16 * 65_536 + 6, &[1]);
+        self.add("a fault in the last of them", BOUNDS, image, 4, &[65_536]);
         self.add("1000000 instructions", BOUNDS, nops(1_000_000), 0, &[]);
         let values = [0, 1_000_001, 1_000_000];
         self.add("1000001 instructions", BOUNDS, nops(1_000_001), 15, &values);
+    }
+
+    /// More instructions than 16 bits can number.
+    fn far_instructions(&mut self) {
+        let with = |at: usize, record| {
+            let mut instrs = vec![plain(0); 70_000];
+            (instrs[at], instrs[69_999]) = (record, ret(0));
+            function(1, &instrs)
+        };
+        let image = with(65_536, plain(56));
+        self.add("an opcode far off", BOUNDS, image, 5, &[65_536]);
+        let image = with(0, jump(69_999));
+        self.add("a jump far off", BOUNDS, image, 0, &[]);
+        let image = with(65_537, jump(70_000));
+        self.add("a jump to the length", BOUNDS, image, 17, &[0, 70_000]);
+        let image = with(65_538, jump(65_536 + 70_000));
+        self.add("a jump past it", BOUNDS, image, 17, &[0, 135_536]);
     }
 
     /// From the last field to the first, each one hiding those after it.

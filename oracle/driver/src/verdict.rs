@@ -143,3 +143,34 @@ fn profile_field(name: &str) -> u64 {
         other => unreachable!("the profile has no field {other}"),
     }
 }
+
+#[cfg(test)]
+mod tests {
+    use super::*;
+    use crate::sample::{plain, ret, single};
+
+    #[test]
+    fn an_image_is_answered_by_its_fault_or_else_by_the_verdict() {
+        let of = |image: &[u8]| of_image(image, CoreAdmissionProfile::safe());
+        assert_eq!(of(&single(1, vec![ret(0)])), Answer::new(0, &[]));
+        assert_eq!(of(&[]), Answer::new(1, &[0]));
+        assert_eq!(
+            of(&single(1, vec![ret(0), plain(56)])),
+            Answer::new(5, &[1])
+        );
+        let answer = of(&single(257, vec![ret(0)]));
+        assert_eq!(answer.words, [0, 257, 256, 0, 0]);
+        assert_eq!(
+            answer.to_string(),
+            "14 (TooManyRegisters), words 0 257 256 0 0"
+        );
+    }
+
+    #[test]
+    fn names_go_with_the_numbers_of_document_01() {
+        let numbers: Vec<u64> = NAMES.iter().map(|(number, _)| *number).collect();
+        let expected: Vec<u64> = (0..=5).chain(10..=20).collect();
+        assert_eq!(numbers, expected);
+        assert_eq!(Answer::new(21, &[]).name(), None);
+    }
+}

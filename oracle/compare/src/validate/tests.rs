@@ -66,10 +66,10 @@ fn a_changed_image_is_found() {
 
 #[test]
 fn a_generated_case_is_named_and_printed() {
-    // Wrong only where no worked case has a say: 33 arguments.
+    // Wrong only where no worked case looks: windows that begin at 10 to 99.
     let text = differs(|image, profile, words| {
         let number = right(image, profile, words);
-        number + u64::from(number == 20 && words[1] > 5 && words[1] < 100)
+        number + u64::from(number == 20 && (10..100).contains(&words[1]))
     });
     let (first, rest) = text.split_once("case ").unwrap();
     assert!(first.starts_with("compared ") && first.ends_with(" worked cases: equal\n"));

@@ -216,19 +216,22 @@ fn instructions_of_no_function(shape: Shape, image: &mut Vec<u8>) {
 }
 
 /// A field that the opcode does not use is 1, or full, or has its upper half
-/// alone set.
+/// alone set. The opcode may be any, each with the same chance; what it does
+/// not use is made 0 first, so that the one field decides.
 fn unused_field(random: &mut SplitMix64, shape: Shape, image: &mut [u8]) {
-    let Some(at) = find(random, shape, image, |_| true) else {
-        return;
-    };
-    let used = fields::used(image[at]);
+    let at = shape.instruction(random.index(shape.instructions.max(1)));
+    let opcode = random.below(56) as u8;
+    let used = fields::used(opcode);
     let unused: Vec<Field> = FIELDS.into_iter().filter(|f| !used.contains(f)).collect();
-    let Some((place, width)) = random.pick(&unused).map(Field::place) else {
-        return;
-    };
-    let upper = 1u32 << (4 * width);
-    let value = random.one_of([1, upper, u32::MAX]).to_le_bytes();
-    put(image, at + place, &value[..width]);
+    put(image, at, &[opcode]);
+    for (place, width) in unused.iter().copied().map(Field::place) {
+        put(image, at + place, &[0; 4][..width]);
+    }
+    if let Some((place, width)) = random.pick(&unused).map(Field::place) {
+        let upper = 1u32 << (4 * width);
+        let value = random.one_of([1, upper, u32::MAX]).to_le_bytes();
+        put(image, at + place, &value[..width]);
+    }
 }
 
 /// The values next to the end of a field that has one.
@@ -303,3 +306,6 @@ fn put(image: &mut [u8], at: usize, bytes: &[u8]) {
         place.copy_from_slice(bytes);
     }
 }
+
+#[cfg(test)]
+mod tests;

@@ -62,30 +62,38 @@ fn exact(random: &mut SplitMix64, program: &Program) -> CoreAdmissionProfile {
 fn one_less(random: &mut SplitMix64, program: &Program) -> CoreAdmissionProfile {
     let mut profile = exact(random, program);
     let place = random.below(7);
-    if matches!(place, 0 | 1 | 6) {
+    let all = place == 6;
+    if all || place < 2 {
         profile.max_registers -= 1;
     }
-    if matches!(place, 2 | 3 | 6) {
+    if all || matches!(place, 2 | 3) {
         profile.max_functions -= 1;
     }
-    if matches!(place, 4 | 5 | 6) {
+    if all || matches!(place, 4 | 5) {
         profile.max_instrs_per_function -= 1;
     }
     profile
 }
 
-/// Puts one field to an end of its range, or just past it.
+/// Puts one field to an end of its range, or just past it, or to a number that
+/// would look like 0 in half of its bits.
 fn edit(random: &mut SplitMix64, profile: &mut CoreAdmissionProfile) {
     let field = random.below(5);
-    let mut edge = |bound: u64, most: u64| random.one_of([0, 0, 1, bound, bound + 1, most]);
+    let mut edge = |bound: u64, bits: u32| {
+        let most = u64::MAX >> (64 - bits);
+        random.one_of([0, 0, 1, bound, bound + 1, most, 1 << (bits / 2)])
+    };
     match field {
-        0 => profile.max_registers = edge(BOUNDS.max_registers.into(), u16::MAX.into()) as u16,
-        1 => profile.max_functions = edge(BOUNDS.max_functions.into(), u16::MAX.into()) as u16,
-        2 => profile.max_call_depth = edge(BOUNDS.max_call_depth.into(), u16::MAX.into()) as u16,
+        0 => profile.max_registers = edge(BOUNDS.max_registers.into(), 16) as u16,
+        1 => profile.max_functions = edge(BOUNDS.max_functions.into(), 16) as u16,
+        2 => profile.max_call_depth = edge(BOUNDS.max_call_depth.into(), 16) as u16,
         3 => {
-            profile.max_instrs_per_function =
-                edge(BOUNDS.max_instrs_per_function.into(), u32::MAX.into()) as u32;
+            let bound = BOUNDS.max_instrs_per_function.into();
+            profile.max_instrs_per_function = edge(bound, 32) as u32;
         }
-        _ => profile.max_fuel = edge(BOUNDS.max_fuel, u64::MAX),
+        _ => profile.max_fuel = edge(BOUNDS.max_fuel, 64),
     }
 }
+
+#[cfg(test)]
+mod tests;

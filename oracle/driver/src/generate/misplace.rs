@@ -28,18 +28,18 @@ pub fn some(random: &mut SplitMix64, program: &mut Program) {
 
 /// What has no such operand stays as it is.
 fn one(random: &mut SplitMix64, program: &mut Program) -> Option<()> {
-    match random.below(20) {
-        0..=3 => register(random, program),
-        4..=6 => jump_target(random, program),
-        7..=8 => call_target(random, program),
-        9..=11 => window(random, program),
-        12..=13 => argument_count(random, program),
-        14 => no_return(random, program),
-        15 => entry(random, program),
-        16 => no_functions(program),
-        17 => some_function(random, program).map(|function| function.regs = 0),
-        18 => some_function(random, program).map(|function| function.instrs.clear()),
-        _ => whole_instruction(random, program),
+    match random.below(24) {
+        0..=4 => register(random, program),
+        5..=8 => whole_instruction(random, program),
+        9..=11 => jump_target(random, program),
+        12 | 13 => call_target(random, program),
+        14..=16 => window(random, program),
+        17 | 18 => argument_count(random, program),
+        19 => no_return(random, program),
+        20 => entry(random, program),
+        21 => no_functions(program),
+        22 => some_function(random, program).map(|function| function.regs = 0),
+        _ => some_function(random, program).map(|function| function.instrs.clear()),
     }
 }
 
@@ -57,9 +57,7 @@ pub fn any_type(random: &mut SplitMix64, program: &mut Program) -> Option<()> {
 }
 
 fn register(random: &mut SplitMix64, program: &mut Program) -> Option<()> {
-    let place = find(random, program, |record| {
-        !fields::registers(record.opcode).is_empty()
-    })?;
+    let place = some_instruction(random, program)?;
     let regs = program.functions[place.0].regs;
     let record = at(program, place);
     let field = random.pick(fields::registers(record.opcode))?;
@@ -141,9 +139,7 @@ fn no_functions(program: &mut Program) -> Option<()> {
 /// Each operand of one instruction with an even chance: which of them is named
 /// shows the order inside an instruction.
 fn whole_instruction(random: &mut SplitMix64, program: &mut Program) -> Option<()> {
-    let place = find(random, program, |record| {
-        !fields::used(record.opcode).is_empty()
-    })?;
+    let place = some_instruction(random, program)?;
     let count = program.functions.len();
     let Function { regs, instrs, .. } = &program.functions[place.0];
     let (regs, length) = (*regs, instrs.len());
@@ -165,17 +161,27 @@ fn whole_instruction(random: &mut SplitMix64, program: &mut Program) -> Option<(
     Some(())
 }
 
-/// The last register, the first past it, the next one, the last number.
+/// The last register, the first past it, the next one, the first that would
+/// look small in 8 bits, and the first and last that would be negative.
 fn off_registers(random: &mut SplitMix64, regs: u16) -> u32 {
     let inside = regs.saturating_sub(1);
     let past = regs.saturating_add(1);
-    u32::from(random.one_of([inside, regs, regs, past, 65_535]))
+    u32::from(random.one_of([inside, regs, regs, past, 256, 32_768, 65_535]))
 }
 
+/// The same for a jump; 65,536 would look small in 16 bits.
 fn off_length(random: &mut SplitMix64, length: usize) -> u32 {
     let length = length as u32;
     let inside = length.saturating_sub(1);
-    random.one_of([inside, length, length, length + 1, u32::MAX])
+    random.one_of([
+        inside,
+        length,
+        length,
+        length + 1,
+        65_536,
+        1 << 31,
+        u32::MAX,
+    ])
 }
 
 fn off_functions(random: &mut SplitMix64, count: usize) -> u16 {
@@ -193,6 +199,32 @@ fn some_function<'a>(
 ) -> Option<&'a mut Function> {
     let count = program.functions.len().max(1);
     program.functions.get_mut(random.index(count))
+}
+
+/// An instruction of any opcode that has operands, each opcode with the same
+/// chance: loads are many, and would else get nearly all of it. What the
+/// program has not got is put behind a function's last instruction.
+fn some_instruction(random: &mut SplitMix64, program: &mut Program) -> Option<Place> {
+    let opcode = random.between(2, 55) as u8;
+    let found = find(random, program, |record| record.opcode == opcode);
+    found.or_else(|| append(random, program, opcode))
+}
+
+fn append(random: &mut SplitMix64, program: &mut Program, opcode: u8) -> Option<Place> {
+    let count = program.functions.len();
+    let number = random.index(count.max(1));
+    let Function { regs, instrs, .. } = program.functions.get_mut(number)?;
+    let mut record = plain(opcode);
+    for field in fields::registers(opcode) {
+        field.set(&mut record, random.index(usize::from(*regs).max(1)) as u32);
+    }
+    match opcode {
+        51..=53 => record.w = random.index(instrs.len() + 1) as u32,
+        54 => record.b = random.index(count) as u16,
+        _ => {}
+    }
+    instrs.push(record);
+    Some((number, instrs.len() - 1))
 }
 
 /// Any one of the instructions that are wanted, each with the same chance.

@@ -1,41 +1,188 @@
+use std::collections::{BTreeMap, HashSet};
+
+use semantic_core_exec::{CoreConfig, CoreExecutor, CoreResult, CoreStatus};
+use semantic_core_runtime::CoreTrap;
+
 use super::*;
-use crate::verdict::{of_image, NAMES};
+use crate::answer::answer;
+use crate::image::read;
+use crate::lines::Bad;
+use crate::verdict::{of_image, Answer, NAMES};
+
+const CASES: u64 = 20_000;
+const RUNS: u64 = 5_000;
+
+fn answer_to(case: &Case) -> Answer {
+    of_image(&case.image, case.profile)
+}
+
+/// A program as it is before anything is put out of place.
+fn in_order(number: u64) -> Program {
+    typed::program(&mut SplitMix64::for_case(1, number))
+}
+
+fn run(program: &Program) -> CoreResult {
+    let program = read(&program.image()).unwrap();
+    let mut config = CoreConfig::default();
+    config.fuel = 10_000;
+    CoreExecutor::new(config).execute_outcome(&program)
+}
 
 #[test]
-fn probe() {
-    let start = std::time::Instant::now();
-    let mut counts = [0u64; 21];
-    let mut bytes = 0;
-    for number in 0..100_000 {
+fn a_case_hangs_on_seed_and_number_alone() {
+    let forwards: Vec<Case> = (0..200).map(|number| Case::new(5, number)).collect();
+    for (number, case) in forwards.iter().enumerate().rev() {
+        assert_eq!(Case::new(5, number as u64), *case);
+    }
+    let different: HashSet<String> = forwards.iter().map(Case::line).collect();
+    assert!(different.len() > 190);
+    assert_ne!(Case::new(6, 0), forwards[0]);
+    assert_eq!(program(5, 9), program(5, 9));
+}
+
+#[test]
+fn each_line_asks_for_its_case() {
+    for number in 0..500 {
         let case = Case::new(1, number);
-        bytes += case.image.len();
-        counts[of_image(&case.image, case.profile).number as usize] += 1;
+        let Answer { number, words } = answer_to(&case);
+        match answer(case.line().as_bytes()) {
+            Ok(text) if text == "admitted" => assert_eq!(number, 0),
+            Ok(text) => {
+                let mut fields = text.split(' ').skip(1).map(|f| f.parse().unwrap());
+                assert_eq!(fields.next(), Some(number));
+                assert!(fields.eq(words[..text.split(' ').count() - 2].iter().copied()));
+            }
+            Err(Bad::Image(fault)) => {
+                assert_eq!(number, u64::from(fault.number()));
+                assert_eq!(words[0], u64::from(fault.answer()));
+            }
+            Err(Bad::Line) => panic!("{}", case.line()),
+        }
     }
-    for (n, name) in NAMES {
-        println!("{n} {name} {}", counts[n as usize]);
+}
+
+/// A third is admitted, so that a check that is missing and one that is too
+/// many are both seen; and each answer occurs often enough.
+#[test]
+fn every_answer_occurs_in_its_share() {
+    let mut counts = BTreeMap::new();
+    for number in 0..CASES {
+        *counts
+            .entry(answer_to(&Case::new(1, number)).number)
+            .or_insert(0) += 1;
     }
-    println!("{bytes} {:?}", start.elapsed());
-    let start = std::time::Instant::now();
-    let mut st = std::collections::BTreeMap::new();
-    let mut fuels = Vec::new();
-    for number in 0..20_000 {
-        let program = program(1, number);
-        let p = crate::image::read(&program.image()).unwrap();
-        let line = crate::run::answer(&p, 10_000, 64);
-        let f: Vec<u64> = line
-            .split(' ')
-            .skip(1)
-            .map(|x| x.parse().unwrap())
-            .collect();
-        *st.entry(f[0]).or_insert(0) += 1;
-        fuels.push(f[3]);
+    let admitted = counts[&0];
+    assert!(admitted > CASES / 4 && admitted < CASES / 2, "{counts:?}");
+    for (number, name) in NAMES {
+        let count = counts.get(&number).copied().unwrap_or(0);
+        assert!(count >= CASES / 100, "{name}: {count}");
     }
-    fuels.sort();
-    println!(
-        "{st:?} {} {} {} {:?}",
-        fuels[2000],
-        fuels[10000],
-        fuels[18000],
-        start.elapsed()
-    );
+    assert_eq!(counts.len(), NAMES.len());
+}
+
+#[test]
+fn every_opcode_occurs_in_programs_in_order() {
+    let mut counts = [0; 256];
+    for record in (0..1_000)
+        .map(in_order)
+        .flat_map(|program| program.functions)
+        .flat_map(|function| function.instrs)
+    {
+        counts[usize::from(record.opcode)] += 1;
+    }
+    let (known, unknown) = counts.split_at(56);
+    assert!(known.iter().all(|count| *count > 50), "{known:?}");
+    assert!(unknown.iter().all(|count| *count == 0));
+}
+
+#[test]
+fn a_program_in_order_is_admitted() {
+    for number in 0..RUNS {
+        let answer = of_image(&in_order(number).image(), CoreAdmissionProfile::safe());
+        assert_eq!(answer, Answer::new(0, &[]), "program {number}");
+    }
+}
+
+/// Operands have the right types whichever way a run goes, and most runs end
+/// with a value after more than a few steps.
+#[test]
+fn a_program_in_order_does_something() {
+    let (mut returned, mut steps) = (0, 0);
+    for number in 0..RUNS {
+        let result = run(&in_order(number));
+        let out_of_order = [
+            CoreTrap::InvalidPc,
+            CoreTrap::InvalidRegister,
+            CoreTrap::TypeMismatch,
+            CoreTrap::InvalidFunction,
+        ];
+        if let CoreStatus::Trapped(trap) = result.status {
+            assert!(!out_of_order.contains(&trap), "program {number}: {trap:?}");
+        }
+        returned += u64::from(result.status == CoreStatus::Returned);
+        steps += u64::from(result.fuel_used > 10);
+    }
+    assert!(returned > RUNS * 3 / 4 && returned < RUNS, "{returned}");
+    assert!(steps > RUNS * 3 / 4, "{steps}");
+}
+
+#[test]
+fn most_admitted_cases_do_something_when_run() {
+    let (mut admitted, mut working) = (0, 0);
+    let cases = (0..RUNS).map(|number| Case::new(1, number));
+    for case in cases.filter(|case| answer_to(case).number == 0) {
+        let program = read(&case.image).unwrap();
+        let result = CoreExecutor::new(CoreConfig::default()).execute_outcome(&program);
+        admitted += 1;
+        let returned = result.status == CoreStatus::Returned;
+        working += u64::from(returned || result.fuel_used > 10);
+    }
+    assert!(working * 4 > admitted * 3, "{working} of {admitted}");
+}
+
+#[test]
+fn programs_to_run_end_in_every_way() {
+    let mut endings = BTreeMap::new();
+    for number in 0..RUNS {
+        let ending = match run(&program(1, number)).status {
+            CoreStatus::Returned => None,
+            CoreStatus::Trapped(trap) => Some(trap.code()),
+        };
+        *endings.entry(ending).or_insert(0) += 1;
+    }
+    assert_eq!(endings.len(), 11, "{endings:?}");
+    assert!(endings[&None] > RUNS / 2, "{endings:?}");
+}
+
+#[test]
+fn the_sizes_at_a_limit_and_past_it_occur() {
+    let answers: HashSet<(u64, [u64; 5])> = (0..CASES)
+        .map(|number| answer_to(&Case::new(1, number)))
+        .map(|answer| (answer.number, answer.words))
+        .collect();
+    let past = |number, at: usize, size, limit| {
+        answers
+            .iter()
+            .any(|(found, words)| *found == number && words[at..at + 2] == [size, limit])
+    };
+    assert!(past(13, 0, 257, 256) && past(13, 0, 4_097, 4_096));
+    assert!(past(13, 0, 65_536, 4_096));
+    assert!(past(14, 1, 257, 256) && past(14, 1, 16_385, 16_384));
+    assert!(past(15, 1, 8_193, 8_192));
+    for number in [77, 77 + 512] {
+        let at_limit = Case::new(1, number);
+        assert!(at_limit.image.len() > 96_000);
+    }
+}
+
+#[test]
+fn a_million_instructions_are_rare() {
+    let large = |number: u64| {
+        let mut program = in_order(number);
+        sizes::grow(&mut SplitMix64(1), number, &mut program);
+        let longest = program.functions.iter().map(|f| f.instrs.len()).max();
+        longest.unwrap_or(0)
+    };
+    let numbers: Vec<usize> = (0..32_768).map(large).filter(|n| *n > 100_000).collect();
+    assert_eq!(numbers, [1_000_000, 1_000_001]);
 }
