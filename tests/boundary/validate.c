@@ -494,6 +494,35 @@ static void run_code_cases(struct image *image)
     }
 }
 
+/* ---- Slices as long as 2^32 bytes and longer, of which only the first page is ever written ---- */
+
+static const struct huge_case {
+    const char *name;
+    uint64_t len;
+} huge_cases[] = {
+    {"document 01's image in 2^32 - 1 bytes", 4294967295u},
+    {"document 01's image in 2^32 bytes", 4294967296u},
+    {"document 01's image in 2^32 + 64 bytes, 64 in the low half", 4294967296u + 64},
+};
+
+static void run_huge_cases(void)
+{
+    static const struct expected layout = {KNIT_LAYOUT, {0}};
+    size_t len = (size_t)huge_cases[COUNT(huge_cases) - 1].len, page = (size_t)sysconf(_SC_PAGESIZE), i;
+    uint8_t *at = (uint8_t *)mmap(NULL, len, PROT_READ, MAP_PRIVATE | MAP_ANONYMOUS | MAP_NORESERVE, -1, 0);
+    if ((void *)at == MAP_FAILED || mprotect(at, page, PROT_READ | PROT_WRITE) != 0)
+        give_up("2^32 bytes");
+    memcpy(at, document_01, sizeof document_01);
+    if (mprotect(at, page, PROT_READ) != 0)
+        give_up("mprotect");
+    for (i = 0; i < COUNT(huge_cases); i++) {
+        current = huge_cases[i].name;
+        cases++;
+        wrong += !call_is_right(at, (size_t)huge_cases[i].len, &safe, &layout);
+    }
+    munmap(at, len);
+}
+
 int main(void)
 {
     static struct image image;
@@ -506,6 +535,7 @@ int main(void)
     run_length_cases(&image);
     run_size_cases(&image);
     run_code_cases(&image);
+    run_huge_cases();
     printf("boundary (%s): %lu cases, %lu wrong\n", LANGUAGE, cases, wrong);
     return wrong == 0 ? 0 : 1;
 }

@@ -1,5 +1,5 @@
 -- The verdict finds nothing wrong exactly in a well-formed image of an admissible program. Assumes nothing.
-use Prim.Native.Nat.{ℕ, zero, suc, _+_, _≤_, _<_}
+use Prim.Native.Nat.{ℕ, zero, suc, _+_, _<_}
 use mathlib.Core.Bool.{Bool, true, false, _||_}
 use mathlib.Core.Path.{_≡_, refl, sym, _∙_, ap, subst}
 use mathlib.Core.List.{List, [], _∷_}
@@ -20,7 +20,10 @@ use Rattle.image.specs.WellFormed.{WellFormed}
 use Rattle.image.specs.Program.{Program, decode}
 use Rattle.image.proofs.Agree.{well-formed}
 use Rattle.admission.specs.Parts.{functionsOf, regsOf, lengthOf, codeOf, Ret}
-use Rattle.admission.specs.Verdict.{registerFault, jumpFault, callFault, windowFault, fieldFault, fieldsFault, instrFault, returnsBefore, codeFault, functionFault, programFault, verdict}
+use Rattle.admission.specs.Verdict.{verdictNumbers, registerFault, jumpFault, callFault, windowFault, fieldFault, fieldsFault, instrFault, returnsBefore, codeFault, functionFault, programFault, verdict}
+use Rattle.admission.specs.declared.CoreValidation.{CoreValidation}
+use Rattle.admission.specs.declared.CoreValidation.the-variants.{Admitted}
+use Rattle.admission.proofs.Unique.{verdict-unique}
 use Rattle.admission.specs.Admissible.{Allowed, Operands, FunctionRule, Admissible}
 
 says-field : (u : Use) (p : Program) (k : ℕ) (i : Instr) (x : ℕ) → Says (fieldFault u p k i x) (Allowed u p k i x)
@@ -100,6 +103,12 @@ module _ (profile : CoreAdmissionProfile) (p : Program) where
 pub admitted : (L : RecordLayout) (s : List ℕ) (profile : CoreAdmissionProfile) → (verdict L s profile ≡ []) ↔ (WellFormed L s × Admissible profile (decode L s))
 unfolding verdict
 admitted L s profile = says-both _ _ (well-formed L s) (says-program profile (decode L s))
+
+-- the same of the verdict itself: whatever meets the promise of `validate_program` is Admitted exactly there
+pub admits : (L : RecordLayout) (s : List ℕ) (profile : CoreAdmissionProfile) (v : CoreValidation) → verdictNumbers v ≡ verdict L s profile → (v ≡ Admitted) ↔ (WellFormed L s × Admissible profile (decode L s))
+admits L s profile v e =
+    let a = admitted L s profile in
+    (λ q. a .0 (sym e ∙ ap verdictNumbers q), λ x. verdict-unique v Admitted (e ∙ a .1 x))
 
 -- on well-formed images the verdict depends on the decoded program and the profile alone, whatever the layouts are
 pub same-program : (L M : RecordLayout) (s t : List ℕ) (profile : CoreAdmissionProfile) → WellFormed L s → WellFormed M t → decode L s ≡ decode M t → verdict L s profile ≡ verdict M t profile

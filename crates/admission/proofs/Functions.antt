@@ -1,12 +1,12 @@
 -- What each step of a function's check comes to, over plain numbers. Assumes nothing.
 use Prim.Native.Nat.{ℕ, _+_, _≤_, _<_}
 use mathlib.Core.Bool.{Bool, true, false, _||_}
-use mathlib.Core.Path.{_≡_, refl, sym, _∙_, ap}
+use mathlib.Core.Path.{_≡_, sym, _∙_, ap}
 use mathlib.Core.List.{List, [], _∷_}
 use lib.Dec.{eqb}
 use native.Mathlib.Numerals.{add-one}
 use borrow.Author.Tests.{le-leb, lt-leb}
-use Rattle.basis.specs.Answers.{isFine, orElse, firstOf}
+use Rattle.basis.specs.Answers.{isFine, firstOf}
 use Rattle.basis.proofs.First.{or-unfine, first-next, first-found}
 use Rattle.runtime.specs.declared.CoreAdmissionProfile.{CoreAdmissionProfile}
 use Rattle.instr.specs.declared.Instr.{Instr}

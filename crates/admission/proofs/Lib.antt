@@ -2,5 +2,5 @@ pub mod Parts
 pub mod Operands
 pub mod Functions
 pub mod Programs
-pub mod Agree
 pub mod Unique
+pub mod Agree

@@ -1,12 +1,12 @@
 -- The numbers of a decoded program, by the records of its image. Assumes nothing.
 use Prim.Native.Nat.{ℕ, _+_, _*_, _≤_, _<_}
-use mathlib.Core.Path.{_≡_, refl, sym, _∙_, ap}
+use mathlib.Core.Path.{_≡_, sym, _∙_, ap}
 use mathlib.Core.List.{List}
 use lib.ListN.{length}
 use native.Mathlib.Omega.{arith}
 use Rattle.instr.specs.declared.Instr.{Instr}
-use Rattle.image.specs.Records.{headerOf, functionNo, RecordLayout, form1, instrPlace, instrNo, twelve}
-use Rattle.image.specs.Program.{Function, decode, functionIn, instrIn}
+use Rattle.image.specs.Records.{headerOf, functionNo, RecordLayout, form1, instrPlace, instrNo, form1Instr}
+use Rattle.image.specs.Program.{Function, decode, instrIn}
 use Rattle.image.specs.declared.record.FunctionRecord.{FunctionRecord}
 use Rattle.image.proofs.Parts.{functions-length, function-in, function-out, regs-is, code-length, code-at}
 use Rattle.admission.specs.Parts.{functionsOf, regsOf, lengthOf, codeOf}
@@ -26,10 +26,10 @@ module _ (L : RecordLayout) (s : List ℕ) (k : ℕ) where
     code-in j l = ap (λ (f : Function). instrIn f j) (function-in L s k q) ∙ code-at L s k j l
 
 -- instruction j of a function whose first is at base
-pub placed : (s : List ℕ) (functions first j : ℕ) → functions ≡ headerOf s .functions → twelve s (24 + 16 * functions + 12 * first + 12 * j) ≡ instrNo form1 s (first + j)
+pub placed : (s : List ℕ) (functions first j : ℕ) → functions ≡ headerOf s .functions → form1Instr s (24 + 16 * functions + 12 * first + 12 * j) ≡ instrNo form1 s (first + j)
 placed s functions first j e =
     let p : 24 + 16 * functions + 12 * first + 12 * j ≡ instrPlace form1 functions (first + j) = omega arith in
-    ap (twelve s) p ∙ ap (λ (n : ℕ). twelve s (instrPlace form1 n (first + j))) e
+    ap (form1Instr s) p ∙ ap (λ (n : ℕ). form1Instr s (instrPlace form1 n (first + j))) e
 
 -- all three, by a function record that was read
 pub numbers : (L : RecordLayout) (s : List ℕ) (k functions : ℕ) (f : FunctionRecord) → functions ≡ headerOf s .functions → k < functions → f ≡ functionNo s k → (regsOf (decode L s) k ≡ f .regs) × (lengthOf (decode L s) k ≡ f .count) × (functionsOf (decode L s) ≡ functions)
@@ -41,7 +41,7 @@ numbers L s k functions f e l h =
     )
 
 -- instruction j of function k is what stands at its place
-pub fetched : (s : List ℕ) (k functions : ℕ) (f : FunctionRecord) (j : ℕ) (i : Instr) → functions ≡ headerOf s .functions → k < functions → f ≡ functionNo s k → j < f .count → i ≡ twelve s (24 + 16 * functions + 12 * f .first + 12 * j) → i ≡ codeOf (decode form1 s) k j
+pub fetched : (s : List ℕ) (k functions : ℕ) (f : FunctionRecord) (j : ℕ) (i : Instr) → functions ≡ headerOf s .functions → k < functions → f ≡ functionNo s k → j < f .count → i ≡ form1Instr s (24 + 16 * functions + 12 * f .first + 12 * j) → i ≡ codeOf (decode form1 s) k j
 fetched s k functions f j i e l h b a =
     let q : k < headerOf s .functions = omega arith in
     let c : j < functionNo s k .count = rw (← h) b in

@@ -3,9 +3,15 @@ use Prim.Native.Nat.{ℕ, _^_}
 use mathlib.Core.Path.{_≡_}
 use mathlib.Core.List.{List, [], _∷_}
 use lib.IntN.{ℤ, pos, negℤ}
+use Rattle.runtime.specs.Profile.{safeProfile}
 use Rattle.runtime.specs.declared.CoreTrap.the-variants.{TypeMismatch, DivisionByZero, IntegerOverflow}
 use Rattle.value.specs.Checked.{payload}
 use Rattle.value.specs.Value.{boolKind, i32Kind, fxKind, register}
+use Rattle.instr.specs.declared.Instr.{Instr}
+use Rattle.image.specs.Program.{Program, noInstr}
+use Rattle.admission.specs.Verdict.{verdictNumbers, programFault}
+use Rattle.admission.specs.declared.CoreValidation.{CoreValidation}
+use Rattle.admission.specs.declared.CoreValidation.the-variants.{Admitted, InvalidRegister, MissingReturn, InvalidArgWindow}
 use Rattle.operate.specs.declared.Outcome.{Outcome}
 use Rattle.operate.specs.declared.Outcome.the-variants.{Value, Trap}
 use Rattle.operate.specs.Operate.{operated}
@@ -39,13 +45,30 @@ FxMul = 43
 abbrev pub FxDiv : ℕ
 FxDiv = 44
 
+abbrev pub Nop : Instr
+Nop = noInstr
+
+abbrev pub Ret : ℕ → Instr
+Ret src = record { op = 55; small = 0; a = src; b = 0; c = 0; w = 0 }
+
+-- a Call of function 0 without arguments
+abbrev pub CallItself : ℕ → ℕ → Instr
+CallItself dst base = record { op = 54; small = 0; a = dst; b = 0; c = base; w = 0 }
+
+-- a program of one function
+abbrev pub alone : ℕ → List Instr → Program
+alone regs code = record { entry = 0; functions = record { name = 0; regs = regs; code = code } ∷ [] }
+
 pub data Edge : Type 0 where
   -- an opcode on two registers computes this
   operation : ℕ → ℕ → ℕ → Outcome → Edge
+  -- a program has this verdict under the safe profile
+  admission : Program → CoreValidation → Edge
 
 -- what a row says
 unfoldable pub Holds : Edge → Type 0
 Holds (operation op lhs rhs answer) = operated op (record { op = op; small = 0; a = 0; b = 0; c = 1; w = 0 }) (lhs ∷ rhs ∷ []) ≡ answer
+Holds (admission p answer) = programFault safeProfile p ≡ verdictNumbers answer
 
 unfoldable pub edges : List Edge
 edges =
@@ -57,6 +80,10 @@ edges =
     ∷ Edge.operation I32Div boolTrue (i32 (pos 0)) (Trap DivisionByZero)
     ∷ Edge.operation FxDiv boolTrue (fx (pos 0)) (Trap TypeMismatch)
     ∷ Edge.operation BoolAnd boolFalse (i32 (pos 5)) (Value boolFalse)
+    ∷ Edge.admission (alone 0 (Nop ∷ [])) (MissingReturn 0)
+    ∷ Edge.admission (alone 0 (Ret 0 ∷ [])) (InvalidRegister 0 0)
+    ∷ Edge.admission (alone 1 (CallItself 0 1 ∷ Ret 0 ∷ [])) Admitted
+    ∷ Edge.admission (alone 1 (CallItself 0 2 ∷ Ret 0 ∷ [])) (InvalidArgWindow 0 2 0)
     ∷ []
 
 -- every row of a list

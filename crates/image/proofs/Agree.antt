@@ -1,17 +1,14 @@
 -- The check finds no fault exactly in the well-formed, whatever the layout of records. Assumes nothing.
 use Prim.Native.Nat.{ℕ, _≤_, _<_}
-use mathlib.Core.Bool.{Bool}
 use mathlib.Core.Path.{_≡_}
 use mathlib.Core.List.{List, [], _∷_}
 use mathlib.Core.Logic.{_↔_}
 use lib.ListN.{length}
-use lib.Dec.{eqb, leb, ltb}
-use Rattle.basis.specs.Answers.{orElse, firstOf}
 use Rattle.basis.proofs.Says.{Says, Tests, says-demand, says-both, says-each, tests-both, tests-lt, tests-le, tests-eq}
 use Rattle.instr.specs.declared.Instr.{Instr}
 use Rattle.image.specs.Fields.{most, fieldsOf}
-use Rattle.image.specs.Records.{headerOf, functionNo, RecordLayout, functionPlace, instrPlace, instrNo}
-use Rattle.image.specs.Image.{layoutHolds, before, functionFault, tableFault, within, recordHolds, recordFault, imageFault}
+use Rattle.image.specs.Records.{headerOf, functionNo, RecordLayout, functionPlace, instrPlace, instrNo, startOf}
+use Rattle.image.specs.Image.{layoutHolds, functionFault, tableFault, within, recordHolds, recordFault, imageFault}
 use Rattle.image.specs.WellFormed.{Lawful, WellFormed}
 
 tests-record : (i : Instr) → Tests (recordHolds i) (Lawful i)
@@ -24,7 +21,7 @@ tests-record i =
     )
 
 module _ (L : RecordLayout) (s : List ℕ) where
-  says-function : (k : ℕ) → Says (functionFault s k) ((functionNo s k .zero ≡ 0) × (functionNo s k .first ≡ before s k))
+  says-function : (k : ℕ) → Says (functionFault s k) ((functionNo s k .zero ≡ 0) × (functionNo s k .first ≡ startOf s k))
   unfolding functionFault
   says-function k = says-demand _ _ _ (tests-both _ _ (tests-eq _ _) (tests-eq _ _))
 
@@ -40,7 +37,7 @@ module _ (L : RecordLayout) (s : List ℕ) where
       (24 ≤ length s)
       × ((h .form ≡ L .form)
       × (((h .table ≡ functionPlace 0) × ((h .code ≡ functionPlace (h .functions)) × ((h .total ≡ end) × (length s ≡ end))))
-      × ((((k : ℕ) → k < h .functions → (functionNo s k .zero ≡ 0) × (functionNo s k .first ≡ before s k)) × (before s (h .functions) ≡ h .instructions))
+      × ((((k : ℕ) → k < h .functions → (functionNo s k .zero ≡ 0) × (functionNo s k .first ≡ startOf s k)) × (startOf s (h .functions) ≡ h .instructions))
       × ((k : ℕ) → k < h .instructions → Lawful (instrNo L s k)))))
 
   says-rules : Says (imageFault L s) Rules
@@ -50,7 +47,7 @@ module _ (L : RecordLayout) (s : List ℕ) where
       let end = instrPlace L (h .functions) (h .instructions) in
       let layout = says-demand _ 3 (0 ∷ []) (tests-both _ _ (tests-eq (h .table) (functionPlace 0)) (tests-both _ _ (tests-eq (h .code) (functionPlace (h .functions))) (tests-both _ _ (tests-eq (h .total) end) (tests-eq (length s) end)))) in
       let functions = says-each (functionFault s) _ (h .functions) says-function in
-      let sum = says-demand _ 4 (h .functions ∷ []) (tests-eq (before s (h .functions)) (h .instructions)) in
+      let sum = says-demand _ 4 (h .functions ∷ []) (tests-eq (startOf s (h .functions)) (h .instructions)) in
       let records = says-each (recordFault (instrNo L s)) _ (h .instructions) says-record in
       says-both _ _ (says-demand _ 1 (0 ∷ []) (tests-le 24 (length s)))
       (says-both _ _ (says-demand _ 2 (0 ∷ []) (tests-eq (h .form) (L .form)))

@@ -1,13 +1,12 @@
 -- The parts of a decoded program, by the records of its image. Assumes nothing.
-use Prim.Native.Nat.{ℕ, zero, suc, _+_, _*_, _≤_, _<_}
+use Prim.Native.Nat.{ℕ, zero, suc, _+_, _≤_, _<_}
 use mathlib.Core.Path.{_≡_, refl, sym, _∙_, ap}
-use mathlib.Core.List.{List, []}
+use mathlib.Core.List.{List}
 use mathlib.Core.Logic.{⊎-elim}
 use native.Mathlib.Nat.{zero-add, add-zero, add-suc, suc-add, eq-or-lt-of-le, le-of-suc-le-suc, not-suc-le-zero}
 use native.Mathlib.Omega.{arith}
 use lib.ListN.{length, getD, List·getD-eq-default}
-use Rattle.image.specs.Records.{headerOf, functionNo, RecordLayout, instrPlace, instrNo}
-use Rattle.image.specs.Image.{before}
+use Rattle.image.specs.Records.{headerOf, functionNo, RecordLayout, instrNo, startOf}
 use Rattle.image.specs.WellFormed.{WellFormed}
 use Rattle.image.specs.Program.{listed, functionOf, decode, noInstr, noFunction, functionIn, instrIn}
 
@@ -53,13 +52,13 @@ module _ (L : RecordLayout) (s : List ℕ) where
 
   -- in a well-formed image each function's instructions lie among all
   module _ (W : WellFormed L s) where
-    grows : (m n : ℕ) → m ≤ n → before s m ≤ before s n
-    unfolding before
+    grows : (m n : ℕ) → m ≤ n → startOf s m ≤ startOf s n
+    unfolding startOf
     grows m zero l = let z : m ≡ zero = omega arith in rw z (omega arith)
     grows m (suc n) l =
         ⊎-elim (λ q. rw q (omega arith))
         (λ q. omega (arith, grows m n (le-of-suc-le-suc q))) (eq-or-lt-of-le l)
 
     pub inside : (k : ℕ) → k < headerOf s .functions → functionNo s k .first + functionNo s k .count ≤ headerOf s .instructions
-    unfolding before
+    unfolding startOf
     inside k q = omega (arith, grows (suc k) (headerOf s .functions) q, W .sum, W .joins k q)

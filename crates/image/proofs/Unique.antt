@@ -6,7 +6,7 @@ use mathlib.Core.List.{List}
 use lib.ListN.{getD}
 use lib.Dec.{eqb}
 use Rattle.basis.specs.Choice.{pick}
-use Rattle.image.specs.Image.{faultNumbers, checkNumbers}
+use Rattle.image.specs.Image.{checkNumbers}
 use Rattle.image.specs.declared.ImageFault.{ImageFault}
 use Rattle.image.specs.declared.ImageFault.the-variants.{Short, Form, Layout, FunctionTable, Instruction}
 use Rattle.image.specs.declared.ImageCheck.{ImageCheck}

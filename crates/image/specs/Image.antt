@@ -1,5 +1,5 @@
 -- The first fault of an image, in the order: length, form, layout, all functions, all instructions.
-use Prim.Native.Nat.{ℕ, zero, suc, _+_}
+use Prim.Native.Nat.{ℕ}
 use mathlib.Core.Bool.{Bool, _&&_}
 use mathlib.Core.List.{List, [], _∷_}
 use lib.ListN.{length}
@@ -7,7 +7,7 @@ use lib.Dec.{eqb, leb, ltb}
 use Rattle.basis.specs.Answers.{demand, orElse, firstOf}
 use Rattle.instr.specs.declared.Instr.{Instr}
 use Rattle.image.specs.Fields.{most, fieldsOf}
-use Rattle.image.specs.Records.{headerOf, functionNo, RecordLayout, functionPlace, instrPlace, instrNo}
+use Rattle.image.specs.Records.{headerOf, functionNo, startOf, RecordLayout, functionPlace, instrPlace, instrNo}
 use Rattle.image.specs.declared.record.Header.{Header}
 use Rattle.image.specs.declared.ImageFault.{ImageFault}
 use Rattle.image.specs.declared.ImageFault.the-variants.{Short, Form, Layout, FunctionTable, Instruction}
@@ -32,22 +32,17 @@ layoutHolds layout h len =
     let end = instrPlace layout (h .functions) (h .instructions) in
     eqb (h .table) (functionPlace 0) && (eqb (h .code) (functionPlace (h .functions)) && (eqb (h .total) end && eqb len end))
 
--- how many instructions the first k functions have
-unfoldable pub before : List ℕ → ℕ → ℕ
-before bytes zero = 0
-before bytes (suc k) = before bytes k + functionNo bytes k .count
-
 -- a function starts where the one before it ended
 unfoldable pub functionFault : List ℕ → ℕ → List ℕ
 functionFault bytes k =
     let f = functionNo bytes k in
-    demand (eqb (f .zero) 0 && eqb (f .first) (before bytes k)) (faultNumbers (FunctionTable k))
+    demand (eqb (f .zero) 0 && eqb (f .first) (startOf bytes k)) (faultNumbers (FunctionTable k))
 
 -- the functions one by one, then that they have as many instructions as there are
 unfoldable pub tableFault : List ℕ → ℕ → ℕ → List ℕ
 tableFault bytes functions instructions =
     orElse (firstOf (functionFault bytes) functions)
-    (demand (eqb (before bytes functions) instructions) (faultNumbers (FunctionTable functions)))
+    (demand (eqb (startOf bytes functions) instructions) (faultNumbers (FunctionTable functions)))
 
 -- an opcode, and each field at most what its use lets it be
 unfoldable pub within : Instr → ℕ → ℕ → ℕ → ℕ → ℕ → Bool

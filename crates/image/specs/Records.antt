@@ -1,5 +1,5 @@
 -- Where the numbers of an image stand.
-use Prim.Native.Nat.{ℕ, _+_, _*_}
+use Prim.Native.Nat.{ℕ, zero, suc, _+_, _*_}
 use mathlib.Core.List.{List}
 use Rattle.basis.specs.Bytes.{byteAt, halfAt, wordAt}
 use Rattle.instr.specs.declared.Instr.{Instr}
@@ -38,8 +38,8 @@ pub record RecordLayout : Type 0 where
   pub instrAt : List ℕ → ℕ → Instr
 
 -- form 1: opcode, small, a, b, c, w in 12 bytes
-unfoldable pub twelve : List ℕ → ℕ → Instr
-twelve bytes at =
+unfoldable pub form1Instr : List ℕ → ℕ → Instr
+form1Instr bytes at =
     record {
       op = byteAt bytes at;
       small = byteAt bytes (at + 1);
@@ -50,7 +50,7 @@ twelve bytes at =
     }
 
 abbrev pub form1 : RecordLayout
-form1 = record { form = 1; size = 12; instrAt = twelve }
+form1 = record { form = 1; size = 12; instrAt = form1Instr }
 
 -- ---- one record after the other
 -- function record k: the table starts right after the header
@@ -59,6 +59,11 @@ functionPlace k = 24 + 16 * k
 
 abbrev pub functionNo : List ℕ → ℕ → FunctionRecord
 functionNo bytes k = functionAt bytes (functionPlace k)
+
+-- where function k has to start: after the instructions of those before it
+unfoldable pub startOf : List ℕ → ℕ → ℕ
+startOf bytes zero = 0
+startOf bytes (suc k) = startOf bytes k + functionNo bytes k .count
 
 -- instruction record k: the table starts right after the last function record
 abbrev pub instrPlace : RecordLayout → ℕ → ℕ → ℕ

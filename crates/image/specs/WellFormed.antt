@@ -5,8 +5,7 @@ use mathlib.Core.List.{List}
 use lib.ListN.{length}
 use Rattle.instr.specs.declared.Instr.{Instr}
 use Rattle.image.specs.Fields.{most, fieldsOf}
-use Rattle.image.specs.Records.{headerOf, functionNo, RecordLayout, functionPlace, instrPlace, instrNo}
-use Rattle.image.specs.Image.{before}
+use Rattle.image.specs.Records.{headerOf, functionNo, RecordLayout, functionPlace, instrPlace, instrNo, startOf}
 
 -- an instruction's record: one of the 56 opcodes, and no field past what the opcode uses it for
 pub record Lawful (i : Instr) : Type 0 where
@@ -28,7 +27,7 @@ pub record WellFormed (layout : RecordLayout) (bytes : List ℕ) : Type 0 where
   pub size : length bytes ≡ instrPlace layout (headerOf bytes .functions) (headerOf bytes .instructions)
   -- each function's spare field is 0, each starts where those before it end, and together they have all instructions
   pub zeros : (k : ℕ) → k < headerOf bytes .functions → functionNo bytes k .zero ≡ 0
-  pub joins : (k : ℕ) → k < headerOf bytes .functions → functionNo bytes k .first ≡ before bytes k
-  pub sum : before bytes (headerOf bytes .functions) ≡ headerOf bytes .instructions
+  pub joins : (k : ℕ) → k < headerOf bytes .functions → functionNo bytes k .first ≡ startOf bytes k
+  pub sum : startOf bytes (headerOf bytes .functions) ≡ headerOf bytes .instructions
   -- every instruction is lawful
   pub records : (k : ℕ) → k < headerOf bytes .instructions → Lawful (instrNo layout bytes k)

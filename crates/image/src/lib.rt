@@ -3,7 +3,7 @@ use instr::Instr;
 ghost use mathlib.Core.Path.{_≡_};
 ghost use Prim.Native.Nat.{_+_, _*_, _^_, _≤_, _<_};
 ghost use Rattle.basis.specs.Answers.{firstOf};
-ghost use Rattle.image.specs.Records.{form1, twelve};
+ghost use Rattle.image.specs.Records.{form1, form1Instr};
 ghost use Rattle.image.specs.Image.{checkNumbers, layoutHolds, tableFault, within, recordHolds, recordFault, imageFault};
 
 pub mod record;
@@ -114,7 +114,7 @@ fn record_holds(op: u8, i: Instr) -> bool
 
 // The first of the instructions that is wrong.
 fn record_fault(image: &[u8], functions: u32, instructions: u32) -> ImageCheck
-    ensures { λ r. ⌜ checkNumbers r ≡ firstOf (recordFault (λ k. twelve (now (image .entry)) (24 + 16 * functions + 12 * k))) instructions ⌝ }
+    ensures { λ r. ⌜ checkNumbers r ≡ firstOf (recordFault (λ k. form1Instr (now (image .entry)) (24 + 16 * functions + 12 * k))) instructions ⌝ }
 {
     let base = 24 + 16 * functions as usize;
     let n = instructions as usize;

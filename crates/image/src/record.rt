@@ -5,7 +5,7 @@ use basis::bytes::u32_at;
 use instr::Instr;
 ghost use mathlib.Core.Path.{_≡_};
 ghost use Prim.Native.Nat.{_^_, _<_};
-ghost use Rattle.image.specs.Records.{headerOf, functionAt, twelve};
+ghost use Rattle.image.specs.Records.{headerOf, functionAt, form1Instr};
 
 // The first 24 bytes: counts of functions and instructions, offsets of their tables, the image's length.
 pub struct Header {
@@ -63,7 +63,7 @@ pub fn function_at(image: &[u8], at: usize) -> FunctionRecord
 }
 
 pub fn instr_at(image: &[u8], at: usize) -> Instr
-    ensures { λ r. ⌜ r ≡ twelve (now (image .entry)) at ⌝ }
+    ensures { λ r. ⌜ r ≡ form1Instr (now (image .entry)) at ⌝ }
     ensures { λ r. ⌜ (r .a < 2 ^ 16) × (r .b < 2 ^ 16) × (r .c < 2 ^ 16) ⌝ }
 {
     if image.len() <= at {

@@ -6,14 +6,14 @@ use native.Mathlib.Omega.{arith}
 use borrow.Author.Needs.{needs}
 use Rattle.basis.specs.Answers.{firstOf}
 use Rattle.basis.proofs.First.{first-none}
-use Rattle.image.specs.Records.{twelve}
+use Rattle.image.specs.Records.{form1Instr}
 use Rattle.image.specs.Image.{recordFault}
 use Rattle.image.proofs.Checks.{record-right, record-wrong}
 use Rattle.image.proofs.record_fault.Statement.{statement}
 use Rattle.image.proofs.record_fault.Tie as tie
 
 abbrev Inv-loop : tie.InvT-loop
-Inv-loop image functions instructions base n k₀ k = (k ≤ n) × (firstOf (recordFault (λ (j : ℕ). twelve image (base + 12 * j))) k ≡ [])
+Inv-loop image functions instructions base n k₀ k = (k ≤ n) × (firstOf (recordFault (λ (j : ℕ). form1Instr image (base + 12 * j))) k ≡ [])
 
 abbrev μ-loop : tie.MeasureT-loop
 μ-loop image functions instructions base n k₀ k = n - k

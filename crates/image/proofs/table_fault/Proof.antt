@@ -5,19 +5,20 @@ use native.Mathlib.Omega.{arith}
 use borrow.Author.Needs.{needs}
 use Rattle.basis.specs.Answers.{firstOf}
 use Rattle.basis.proofs.First.{first-none}
-use Rattle.image.specs.Image.{before, functionFault}
+use Rattle.image.specs.Image.{functionFault}
+use Rattle.image.specs.Records.{startOf}
 use Rattle.image.proofs.Checks.{function-right, start-next, function-unzero, function-apart, sum-wrong, sum-right}
 use Rattle.image.proofs.table_fault.Statement.{statement}
 use Rattle.image.proofs.table_fault.Tie as tie
 
 abbrev Inv-loop : tie.InvT-loop
-Inv-loop image functions instructions n k₀ start₀ k start = (k ≤ n) × (start ≡ before image k) × (firstOf (functionFault image) k ≡ [])
+Inv-loop image functions instructions n k₀ start₀ k start = (k ≤ n) × (start ≡ startOf image k) × (firstOf (functionFault image) k ≡ [])
 
 abbrev μ-loop : tie.MeasureT-loop
 μ-loop image functions instructions n k₀ start₀ k start = n - k
 
 loop-holds : tie.Need-loop-holds Inv-loop μ-loop
-unfolding before
+unfolding startOf
 loop-holds c = (omega arith, refl, first-none _)
 
 mul-function-at : tie.Need-mul-function-at Inv-loop μ-loop

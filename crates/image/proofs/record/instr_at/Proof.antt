@@ -1,5 +1,5 @@
 use native.Mathlib.Omega.{arith}
-use Rattle.image.specs.Records.{twelve}
+use Rattle.image.specs.Records.{form1Instr}
 use mathlib.Core.Path.{sym}
 use Rattle.image.proofs.Past.{instr-past}
 use borrow.Author.Needs.{needs}
@@ -52,7 +52,7 @@ u32-at-requires : tie.Need-u32-at-requires
 u32-at-requires c κs = search needs
 
 returns-2 : tie.Need-returns-2
-unfolding twelve
+unfolding form1Instr
 returns-2 c = (rw (← c .before .before .before .before .before .u8-at .ensures, ← c .before .before .before .before .u8-at2 .ensures, ← c .before .before .before .u16-at .ensures, ← c .before .before .u16-at2 .ensures, ← c .before .u16-at3 .ensures, ← c .u32-at .ensures), (omega arith, omega arith, omega arith))
 
 pub instr-at-spec : {M : Type 1} → statement M
