@@ -26,9 +26,9 @@ module _ (L : RecordLayout) (s : List ℕ) (k : ℕ) where
     code-in j l = ap (λ (f : Function). instrIn f j) (function-in L s k q) ∙ code-at L s k j l
 
 -- instruction j of a function whose first is at base
-pub placed : (s : List ℕ) (functions first j : ℕ) → functions ≡ headerOf s .functions → form1Instr s (24 + 16 * functions + 12 * first + 12 * j) ≡ instrNo form1 s (first + j)
+pub placed : (s : List ℕ) (functions first j : ℕ) → functions ≡ headerOf s .functions → form1Instr s (instrPlace form1 functions first + form1 .size * j) ≡ instrNo form1 s (first + j)
 placed s functions first j e =
-    let p : 24 + 16 * functions + 12 * first + 12 * j ≡ instrPlace form1 functions (first + j) = omega arith in
+    let p : instrPlace form1 functions first + form1 .size * j ≡ instrPlace form1 functions (first + j) = omega arith in
     ap (form1Instr s) p ∙ ap (λ (n : ℕ). form1Instr s (instrPlace form1 n (first + j))) e
 
 -- all three, by a function record that was read
@@ -41,7 +41,7 @@ numbers L s k functions f e l h =
     )
 
 -- instruction j of function k is what stands at its place
-pub fetched : (s : List ℕ) (k functions : ℕ) (f : FunctionRecord) (j : ℕ) (i : Instr) → functions ≡ headerOf s .functions → k < functions → f ≡ functionNo s k → j < f .count → i ≡ form1Instr s (24 + 16 * functions + 12 * f .first + 12 * j) → i ≡ codeOf (decode form1 s) k j
+pub fetched : (s : List ℕ) (k functions : ℕ) (f : FunctionRecord) (j : ℕ) (i : Instr) → functions ≡ headerOf s .functions → k < functions → f ≡ functionNo s k → j < f .count → i ≡ form1Instr s (instrPlace form1 functions (f .first) + form1 .size * j) → i ≡ codeOf (decode form1 s) k j
 fetched s k functions f j i e l h b a =
     let q : k < headerOf s .functions = omega arith in
     let c : j < functionNo s k .count = rw (← h) b in

@@ -1,4 +1,5 @@
--- The verdict on an image under a profile: the first fault, in the order that is fixed for faults.
+-- The verdict on an image under a profile: the first fault of the image, the profile, the program as a whole, or its functions in
+-- order, each with its registers, its length, its instructions in order and a return.
 use Prim.Native.Nat.{ℕ, zero, suc, _+_}
 use mathlib.Core.Bool.{Bool, false, _&&_, _||_}
 use mathlib.Core.List.{List, [], _∷_}

@@ -1,6 +1,9 @@
 // The functions of a program, one after the other.
 use crate::CoreValidation;
 use crate::operand::check_instr;
+use image::record::FUNCTION_SIZE;
+use image::record::HEADER_SIZE;
+use image::record::INSTR_SIZE;
 use image::record::function_at;
 use image::record::instr_at;
 use runtime::CoreAdmissionProfile;
@@ -18,13 +21,13 @@ fn code(image: &[u8], functions: u32, k: usize) -> CoreValidation
     requires { ⌜ (functions ≡ headerOf (now image) .functions) × (k < functions) ⌝ }
     ensures { λ v. ⌜ verdictNumbers v ≡ codeFault (decode form1 (now (image .entry))) k ⌝ }
 {
-    let f = function_at(image, 24 + 16 * k);
-    let base = 24 + 16 * functions as usize + 12 * f.first as usize;
+    let f = function_at(image, HEADER_SIZE + FUNCTION_SIZE * k);
+    let base = HEADER_SIZE + FUNCTION_SIZE * functions as usize + INSTR_SIZE * f.first as usize;
     let len = f.count as usize;
     let mut j = 0;
     let mut has_return = false;
     while j < len {
-        let i = instr_at(image, base + 12 * j);
+        let i = instr_at(image, base + INSTR_SIZE * j);
         let v = check_instr(image, functions, k, f, i.op, i);
         if !v.is_admitted() {
             return v;
@@ -43,7 +46,7 @@ fn one(image: &[u8], profile: CoreAdmissionProfile, functions: u32, k: usize) ->
     requires { ⌜ (functions ≡ headerOf (now image) .functions) × (k < functions) ⌝ }
     ensures { λ v. ⌜ verdictNumbers v ≡ functionFault profile (decode form1 (now (image .entry))) k ⌝ }
 {
-    let f = function_at(image, 24 + 16 * k);
+    let f = function_at(image, HEADER_SIZE + FUNCTION_SIZE * k);
     let regs = f.regs as usize;
     let len = f.count as usize;
     let max_regs = profile.max_registers as usize;

@@ -1,6 +1,8 @@
 // The operands of one instruction of function k, decided by its opcode's number, with ranges for opcodes of equal operands.
 use crate::CoreValidation;
+use image::record::FUNCTION_SIZE;
 use image::record::FunctionRecord;
+use image::record::HEADER_SIZE;
 use image::record::function_at;
 use instr::Instr;
 ghost use mathlib.Core.Path.{_≡_};
@@ -75,7 +77,7 @@ fn callee_regs(image: &[u8], functions: u32, callee: usize) -> usize
     ensures { λ r. ⌜ r ≡ regsOf (decode form1 (now (image .entry))) callee ⌝ }
 {
     if callee < functions as usize {
-        return function_at(image, 24 + 16 * callee).regs as usize;
+        return function_at(image, HEADER_SIZE + FUNCTION_SIZE * callee).regs as usize;
     }
     0
 }

@@ -3,13 +3,14 @@ ghost use mathlib.Core.Path.{_≡_};
 ghost use Prim.Native.Nat.{_+_, _*_, _^_};
 ghost use Rattle.basis.specs.Bytes.{byteAt, halfAt, wordAt};
 
-fn join2(low: u8, high: u8) -> u16
+// Two bytes, or two halves, put together.
+pub fn join2(low: u8, high: u8) -> u16
     ensures { λ r. ⌜ r ≡ low + high * 2 ^ 8 ⌝ }
 {
     low as u16 + high as u16 * 0x100
 }
 
-fn join4(low: u16, high: u16) -> u32
+pub fn join4(low: u16, high: u16) -> u32
     ensures { λ r. ⌜ r ≡ low + high * 2 ^ 16 ⌝ }
 {
     low as u32 + high as u32 * 0x1_0000

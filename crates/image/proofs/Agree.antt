@@ -8,7 +8,7 @@ use Rattle.basis.proofs.Says.{Says, Tests, says-demand, says-both, says-each, t
 use Rattle.instr.specs.declared.Instr.{Instr}
 use Rattle.image.specs.Fields.{most, fieldsOf}
 use Rattle.image.specs.Records.{headerOf, functionNo, RecordLayout, functionPlace, instrPlace, instrNo, startOf}
-use Rattle.image.specs.Image.{layoutHolds, functionFault, tableFault, within, recordHolds, recordFault, imageFault}
+use Rattle.image.specs.Image.{layoutHolds, rowFault, tableFault, within, recordHolds, recordFault, imageFault}
 use Rattle.image.specs.WellFormed.{Lawful, WellFormed}
 
 tests-record : (i : Instr) → Tests (recordHolds i) (Lawful i)
@@ -21,8 +21,8 @@ tests-record i =
     )
 
 module _ (L : RecordLayout) (s : List ℕ) where
-  says-function : (k : ℕ) → Says (functionFault s k) ((functionNo s k .zero ≡ 0) × (functionNo s k .first ≡ startOf s k))
-  unfolding functionFault
+  says-function : (k : ℕ) → Says (rowFault s k) ((functionNo s k .zero ≡ 0) × (functionNo s k .first ≡ startOf s k))
+  unfolding rowFault
   says-function k = says-demand _ _ _ (tests-both _ _ (tests-eq _ _) (tests-eq _ _))
 
   says-record : (k : ℕ) → Says (recordFault (instrNo L s) k) (Lawful (instrNo L s k))
@@ -46,7 +46,7 @@ module _ (L : RecordLayout) (s : List ℕ) where
       let h = headerOf s in
       let end = instrPlace L (h .functions) (h .instructions) in
       let layout = says-demand _ 3 (0 ∷ []) (tests-both _ _ (tests-eq (h .table) (functionPlace 0)) (tests-both _ _ (tests-eq (h .code) (functionPlace (h .functions))) (tests-both _ _ (tests-eq (h .total) end) (tests-eq (length s) end)))) in
-      let functions = says-each (functionFault s) _ (h .functions) says-function in
+      let functions = says-each (rowFault s) _ (h .functions) says-function in
       let sum = says-demand _ 4 (h .functions ∷ []) (tests-eq (startOf s (h .functions)) (h .instructions)) in
       let records = says-each (recordFault (instrNo L s)) _ (h .instructions) says-record in
       says-both _ _ (says-demand _ 1 (0 ∷ []) (tests-le 24 (length s)))

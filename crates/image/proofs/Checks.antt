@@ -10,7 +10,7 @@ use Rattle.basis.specs.Answers.{isFine, orElse, firstOf}
 use Rattle.basis.proofs.First.{first-more, first-here}
 use Rattle.instr.specs.declared.Instr.{Instr}
 use Rattle.image.specs.Records.{headerOf, functionNo, RecordLayout, instrPlace, instrNo, startOf}
-use Rattle.image.specs.Image.{faultNumbers, layoutHolds, functionFault, tableFault, recordHolds, recordFault, imageFault}
+use Rattle.image.specs.Image.{faultNumbers, layoutHolds, rowFault, tableFault, recordHolds, recordFault, imageFault}
 use Rattle.image.specs.declared.record.Header.{Header}
 use Rattle.image.specs.declared.record.FunctionRecord.{FunctionRecord}
 use Rattle.image.specs.declared.ImageFault.{ImageFault}
@@ -27,26 +27,26 @@ module _ (instr : ℕ → Instr) (k : ℕ) (i : Instr) (e : i ≡ instr k) (none
   record-wrong n l h = sym (first-here (recordFault instr) k n 5 (k ∷ []) l none (rw (← e, h)))
 
 -- ---- a turn of the loop over functions
-module _ (s : List ℕ) (k start : ℕ) (f : FunctionRecord) (e : f ≡ functionNo s k) (at : start ≡ startOf s k) (none : firstOf (functionFault s) k ≡ []) where
-  pub function-right : f .zero ≡ 0 → f .first ≡ start → firstOf (functionFault s) (k + 1) ≡ []
-  unfolding functionFault
-  function-right z j = first-more (functionFault s) k none (rw (← e, ← at, eq-eqb _ _ z, eq-eqb _ _ j))
+module _ (s : List ℕ) (k start : ℕ) (f : FunctionRecord) (e : f ≡ functionNo s k) (at : start ≡ startOf s k) (none : firstOf (rowFault s) k ≡ []) where
+  pub row-right : f .zero ≡ 0 → f .first ≡ start → firstOf (rowFault s) (k + 1) ≡ []
+  unfolding rowFault
+  row-right z j = first-more (rowFault s) k none (rw (← e, ← at, eq-eqb _ _ z, eq-eqb _ _ j))
 
   pub start-next : f .first ≡ start → f .first + f .count ≡ startOf s (k + 1)
   unfolding startOf
   start-next j = rw (add-one, ← e, j, at)
 
-  pub function-unzero : (n total : ℕ) → k < n → (f .zero ≡ 0 → ⊥) → 4 ∷ k ∷ [] ≡ tableFault s n total
-  unfolding tableFault functionFault
-  function-unzero n total l z = rw (first-here (functionFault s) k n 4 (k ∷ []) l none (rw (← e, ne-eqb _ _ z)))
+  pub row-spare : (n total : ℕ) → k < n → (f .zero ≡ 0 → ⊥) → 4 ∷ k ∷ [] ≡ tableFault s n total
+  unfolding tableFault rowFault
+  row-spare n total l z = rw (first-here (rowFault s) k n 4 (k ∷ []) l none (rw (← e, ne-eqb _ _ z)))
 
-  pub function-apart : (n total : ℕ) → k < n → f .zero ≡ 0 → (f .first ≡ start → ⊥) → 4 ∷ k ∷ [] ≡ tableFault s n total
-  unfolding tableFault functionFault
-  function-apart n total l z j =
-      rw (first-here (functionFault s) k n 4 (k ∷ []) l none (rw (← e, ← at, eq-eqb _ _ z, ne-eqb _ _ j)))
+  pub row-apart : (n total : ℕ) → k < n → f .zero ≡ 0 → (f .first ≡ start → ⊥) → 4 ∷ k ∷ [] ≡ tableFault s n total
+  unfolding tableFault rowFault
+  row-apart n total l z j =
+      rw (first-here (rowFault s) k n 4 (k ∷ []) l none (rw (← e, ← at, eq-eqb _ _ z, ne-eqb _ _ j)))
 
 -- ---- the sum of the counts
-module _ (s : List ℕ) (n total start : ℕ) (at : start ≡ startOf s n) (none : firstOf (functionFault s) n ≡ []) where
+module _ (s : List ℕ) (n total start : ℕ) (at : start ≡ startOf s n) (none : firstOf (rowFault s) n ≡ []) where
   pub sum-wrong : (start ≡ total → ⊥) → 4 ∷ n ∷ [] ≡ tableFault s n total
   unfolding tableFault
   sum-wrong h = rw (none, ← at, ne-eqb _ _ h)

@@ -2,7 +2,7 @@
 -- the law that turns it into the rule at each of the opcodes. Assumes nothing.
 use Prim.Native.Nat.{ℕ, _+_, _≤_, _<_}
 use mathlib.Core.Bool.{Bool, true, false, _&&_}
-use mathlib.Core.Path.{_≡_}
+use mathlib.Core.Path.{_≡_, _∙_}
 use lib.Dec.{T, eqb, leb, eqb→eq, leb→le}
 use native.Mathlib.Omega.{arith}
 use borrow.Author.Tests.{lt-ltb, le-ltb}
@@ -49,11 +49,11 @@ module _ (i : Instr) (op : ℕ) (e : op ≡ i .op) where
       let e4 : most (fieldsOf op .w) ≡ w = eqb→eq _ _ (t3 .1) in
       rw (← e, lt-ltb op 56 l, e0, e1, e2, e3, e4)
 
-  -- n opcodes from lo on
-  pub run : (lo n small a b c w : ℕ) → T (Passes (reach small a b c w) lo n) → T (leb (lo + n) 56) → lo ≤ op → op < lo + n → within i small a b c w ≡ recordHolds i
-  run lo n small a b c w t u p q =
+  -- n opcodes from lo on, of which one was held to these limits
+  pub run : (lo n small a b c w : ℕ) (v : Bool) → v ≡ within i small a b c w → T (Passes (reach small a b c w) lo n) → T (leb (lo + n) 56) → lo ≤ op → op < lo + n → v ≡ recordHolds i
+  run lo n small a b c w v h t u p q =
       let m : lo + n ≤ 56 = leb→le (lo + n) 56 u in
-      reached small a b c w (passes (reach small a b c w) lo n op t p q) (omega arith)
+      h ∙ reached small a b c w (passes (reach small a b c w) lo n op t p q) (omega arith)
 
   pub beyond : 56 ≤ op → false ≡ recordHolds i
   unfolding recordHolds

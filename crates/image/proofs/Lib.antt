@@ -1,4 +1,4 @@
-pub mod Past
+pub mod Bytes
 pub mod Forms
 pub mod Checks
 pub mod Agree

@@ -46,31 +46,37 @@ pub record Fields : Type 0 where
   pub w : Use
 
 -- ---- the forms that instructions take
+-- no operand
 abbrev pub bare : Fields
 bare = record { small = unused; a = unused; b = unused; c = unused; w = unused }
 
+-- one register: dst, cond or src
 abbrev pub one : Fields
 one = record { small = unused; a = register; b = unused; c = unused; w = unused }
 
+-- dst and src
 abbrev pub two : Fields
 two = record { small = unused; a = register; b = register; c = unused; w = unused }
 
+-- dst, lhs and rhs
 abbrev pub three : Fields
 three = record { small = unused; a = register; b = register; c = register; w = unused }
 
--- a load of a value that stands in small, or in w
+-- dst and a value to load, which stands in small, or in w
 abbrev pub small : Use → Fields
 small value = record { small = value; a = register; b = unused; c = unused; w = unused }
 
 abbrev pub wide : Use → Fields
 wide value = record { small = unused; a = register; b = unused; c = unused; w = value }
 
+-- a target, without or with a condition
 abbrev pub jump : Fields
 jump = record { small = unused; a = unused; b = unused; c = unused; w = target }
 
 abbrev pub branch : Fields
 branch = record { small = unused; a = register; b = unused; c = unused; w = target }
 
+-- dst, function, arg_base and arg_count
 abbrev pub call : Fields
 call = record { small = unused; a = register; b = callee; c = argBase; w = argCount }
 

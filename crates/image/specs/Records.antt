@@ -6,7 +6,15 @@ use Rattle.instr.specs.declared.Instr.{Instr}
 use Rattle.image.specs.declared.record.Header.{Header}
 use Rattle.image.specs.declared.record.FunctionRecord.{FunctionRecord}
 
--- the header: 24 bytes
+-- ---- the sizes of what has one size in every form
+abbrev pub headerSize : ℕ
+headerSize = 24
+
+abbrev pub functionSize : ℕ
+functionSize = 16
+
+-- ---- the records
+-- the header
 unfoldable pub headerOf : List ℕ → Header
 headerOf bytes =
     record {
@@ -19,7 +27,7 @@ headerOf bytes =
       total = wordAt bytes 20;
     }
 
--- a function record at a place: 16 bytes
+-- a function record at a place
 unfoldable pub functionAt : List ℕ → ℕ → FunctionRecord
 functionAt bytes at =
     record {
@@ -30,7 +38,7 @@ functionAt bytes at =
       count = wordAt bytes (at + 12);
     }
 
--- how instruction records are written: the form number that stands for it, the bytes of a record, and the instruction that a record
+-- how instruction records are written: the form number that stands for it, a record's size in bytes, and the instruction that a record
 -- at a place holds. Everything said about images is said for every layout.
 pub record RecordLayout : Type 0 where
   pub form : ℕ
@@ -55,7 +63,7 @@ form1 = record { form = 1; size = 12; instrAt = form1Instr }
 -- ---- one record after the other
 -- function record k: the table starts right after the header
 abbrev pub functionPlace : ℕ → ℕ
-functionPlace k = 24 + 16 * k
+functionPlace k = headerSize + functionSize * k
 
 abbrev pub functionNo : List ℕ → ℕ → FunctionRecord
 functionNo bytes k = functionAt bytes (functionPlace k)

@@ -5,7 +5,7 @@ use mathlib.Core.List.{List}
 use lib.ListN.{length}
 use Rattle.instr.specs.declared.Instr.{Instr}
 use Rattle.image.specs.Fields.{most, fieldsOf}
-use Rattle.image.specs.Records.{headerOf, functionNo, RecordLayout, functionPlace, instrPlace, instrNo, startOf}
+use Rattle.image.specs.Records.{headerSize, headerOf, functionNo, RecordLayout, functionPlace, instrPlace, instrNo, startOf}
 
 -- an instruction's record: one of the 56 opcodes, and no field past what the opcode uses it for
 pub record Lawful (i : Instr) : Type 0 where
@@ -18,7 +18,7 @@ pub record Lawful (i : Instr) : Type 0 where
 
 pub record WellFormed (layout : RecordLayout) (bytes : List ℕ) : Type 0 where
   -- there is a header, and it names this form
-  pub long : 24 ≤ length bytes
+  pub long : headerSize ≤ length bytes
   pub form : headerOf bytes .form ≡ layout .form
   -- the functions stand after the header, the instructions after the functions, and nothing after them
   pub table : headerOf bytes .table ≡ functionPlace 0

@@ -1,14 +1,16 @@
 // The program image: its records, and the check of bytes that are said to be one. The Rust has no image; this one is document 01's.
 use instr::Instr;
 ghost use mathlib.Core.Path.{_≡_};
-ghost use Prim.Native.Nat.{_+_, _*_, _^_, _≤_, _<_};
 ghost use Rattle.basis.specs.Answers.{firstOf};
-ghost use Rattle.image.specs.Records.{form1, form1Instr};
+ghost use Rattle.image.specs.Records.{form1, form1Instr, instrPlace};
 ghost use Rattle.image.specs.Image.{checkNumbers, layoutHolds, tableFault, within, recordHolds, recordFault, imageFault};
 
 pub mod record;
 
+use record::FUNCTION_SIZE;
+use record::HEADER_SIZE;
 use record::Header;
+use record::INSTR_SIZE;
 use record::function_at;
 use record::header_of;
 use record::instr_at;
@@ -27,7 +29,7 @@ pub enum ImageCheck {
     Fault(ImageFault),
 }
 
-// The greatest register, function or count that a field can name, and the greatest number in w.
+// The greatest number of two bytes, and of four.
 const ANY: usize = 0xffff;
 
 const WORD: u32 = 0xffff_ffff;
@@ -36,9 +38,9 @@ const WORD: u32 = 0xffff_ffff;
 fn layout_holds(h: Header, len: usize) -> bool
     ensures { λ r. ⌜ r ≡ layoutHolds form1 h len ⌝ }
 {
-    let code = 24 + 16 * h.functions as usize;
-    let end = code + 12 * h.instructions as usize;
-    if h.table != 24 {
+    let code = HEADER_SIZE + FUNCTION_SIZE * h.functions as usize;
+    let end = code + INSTR_SIZE * h.instructions as usize;
+    if h.table as usize != HEADER_SIZE {
         return false;
     }
     if h.code as usize != code {
@@ -58,7 +60,7 @@ fn table_fault(image: &[u8], functions: u32, instructions: u32) -> ImageCheck
     let mut k = 0;
     let mut start = 0;
     while k < n {
-        let f = function_at(image, 24 + 16 * k);
+        let f = function_at(image, HEADER_SIZE + FUNCTION_SIZE * k);
         if f.zero != 0 {
             return ImageCheck::Fault(ImageFault::FunctionTable(k));
         }
@@ -114,13 +116,13 @@ fn record_holds(op: u8, i: Instr) -> bool
 
 // The first of the instructions that is wrong.
 fn record_fault(image: &[u8], functions: u32, instructions: u32) -> ImageCheck
-    ensures { λ r. ⌜ checkNumbers r ≡ firstOf (recordFault (λ k. form1Instr (now (image .entry)) (24 + 16 * functions + 12 * k))) instructions ⌝ }
+    ensures { λ r. ⌜ checkNumbers r ≡ firstOf (recordFault (λ k. form1Instr (now (image .entry)) (instrPlace form1 functions k))) instructions ⌝ }
 {
-    let base = 24 + 16 * functions as usize;
+    let base = HEADER_SIZE + FUNCTION_SIZE * functions as usize;
     let n = instructions as usize;
     let mut k = 0;
     while k < n {
-        let i = instr_at(image, base + 12 * k);
+        let i = instr_at(image, base + INSTR_SIZE * k);
         if !record_holds(i.op, i) {
             return ImageCheck::Fault(ImageFault::Instruction(k));
         }
@@ -132,7 +134,7 @@ fn record_fault(image: &[u8], functions: u32, instructions: u32) -> ImageCheck
 pub fn check_image(image: &[u8]) -> ImageCheck
     ensures { λ r. ⌜ checkNumbers r ≡ imageFault form1 (now (image .entry)) ⌝ }
 {
-    if image.len() < 24 {
+    if image.len() < HEADER_SIZE {
         return ImageCheck::Fault(ImageFault::Short);
     }
     let h = header_of(image);

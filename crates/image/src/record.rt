@@ -1,13 +1,23 @@
 // The records of an image, read at a place. Every place is good: what lies past the end reads as 0.
+use basis::bytes::join2;
+use basis::bytes::join4;
 use basis::bytes::u8_at;
 use basis::bytes::u16_at;
 use basis::bytes::u32_at;
 use instr::Instr;
 ghost use mathlib.Core.Path.{_≡_};
-ghost use Prim.Native.Nat.{_^_, _<_};
+ghost use Prim.Native.Nat.{_+_, _^_, _≤_, _<_};
+ghost use lib.ListN.{length};
 ghost use Rattle.image.specs.Records.{headerOf, functionAt, form1Instr};
 
-// The first 24 bytes: counts of functions and instructions, offsets of their tables, the image's length.
+// How many bytes the records have.
+pub const HEADER_SIZE: usize = 24;
+
+pub const FUNCTION_SIZE: usize = 16;
+
+pub const INSTR_SIZE: usize = 12;
+
+// The first bytes: counts of functions and instructions, offsets of their tables, the image's length.
 pub struct Header {
     pub form: u16,
     pub entry: u16,
@@ -18,7 +28,7 @@ pub struct Header {
     pub total: u32,
 }
 
-// 16 bytes: the function's name, its registers, and which of all instructions are its own.
+// The function's name, its registers, and which of all instructions are its own.
 pub struct FunctionRecord {
     pub name: u32,
     pub regs: u16,
@@ -62,7 +72,27 @@ pub fn function_at(image: &[u8], at: usize) -> FunctionRecord
     }
 }
 
-pub fn instr_at(image: &[u8], at: usize) -> Instr
+// A record that lies wholly within the image. Whoever runs a program reads its instructions here, so the bytes are taken as they
+// lie, and no read asks whether it is within.
+fn whole_instr(image: &[u8], at: usize) -> Instr
+    requires { ⌜ at + 12 ≤ length (now image) ⌝ }
+    ensures { λ r. ⌜ r ≡ form1Instr (now (image .entry)) at ⌝ }
+    ensures { λ r. ⌜ (r .a < 2 ^ 16) × (r .b < 2 ^ 16) × (r .c < 2 ^ 16) ⌝ }
+{
+    let low = join2(image[at + 8], image[at + 9]);
+    let high = join2(image[at + 10], image[at + 11]);
+    Instr {
+        op: image[at],
+        small: image[at + 1],
+        a: join2(image[at + 2], image[at + 3]) as usize,
+        b: join2(image[at + 4], image[at + 5]) as usize,
+        c: join2(image[at + 6], image[at + 7]) as usize,
+        w: join4(low, high),
+    }
+}
+
+// One that the image's end cuts, or that lies past it.
+fn cut_instr(image: &[u8], at: usize) -> Instr
     ensures { λ r. ⌜ r ≡ form1Instr (now (image .entry)) at ⌝ }
     ensures { λ r. ⌜ (r .a < 2 ^ 16) × (r .b < 2 ^ 16) × (r .c < 2 ^ 16) ⌝ }
 {
@@ -84,4 +114,18 @@ pub fn instr_at(image: &[u8], at: usize) -> Instr
         c: u16_at(image, at + 6) as usize,
         w: u32_at(image, at + 8),
     }
+}
+
+pub fn instr_at(image: &[u8], at: usize) -> Instr
+    ensures { λ r. ⌜ r ≡ form1Instr (now (image .entry)) at ⌝ }
+    ensures { λ r. ⌜ (r .a < 2 ^ 16) × (r .b < 2 ^ 16) × (r .c < 2 ^ 16) ⌝ }
+{
+    let n = image.len();
+    if n < INSTR_SIZE {
+        return cut_instr(image, at);
+    }
+    if at > n - INSTR_SIZE {
+        return cut_instr(image, at);
+    }
+    whole_instr(image, at)
 }

@@ -22,6 +22,9 @@ mul-end c = search needs
 add-end : tie.Need-add-end
 add-end c = search needs
 
+cast-if1 : tie.Need-cast-if1
+cast-if1 c = search needs
+
 returns : tie.Need-returns
 unfolding layoutHolds
 returns c = rw (ne-eqb _ _ (c .if1 .taken))
@@ -54,6 +57,7 @@ layout-holds-spec =
     cast-end
     mul-end
     add-end
+    cast-if1
     returns
     cast-if2
     returns-2

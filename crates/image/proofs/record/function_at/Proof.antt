@@ -1,6 +1,6 @@
 use Rattle.image.specs.Records.{functionAt}
 use mathlib.Core.Path.{sym}
-use Rattle.image.proofs.Past.{function-past}
+use Rattle.image.proofs.Bytes.{function-past}
 use borrow.Author.Needs.{needs}
 use Rattle.image.proofs.record.function_at.Statement.{statement}
 use Rattle.image.proofs.record.function_at.Tie as tie

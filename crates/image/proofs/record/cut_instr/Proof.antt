@@ -1,10 +1,10 @@
 use native.Mathlib.Omega.{arith}
 use Rattle.image.specs.Records.{form1Instr}
 use mathlib.Core.Path.{sym}
-use Rattle.image.proofs.Past.{instr-past}
+use Rattle.image.proofs.Bytes.{instr-past}
 use borrow.Author.Needs.{needs}
-use Rattle.image.proofs.record.instr_at.Statement.{statement}
-use Rattle.image.proofs.record.instr_at.Tie as tie
+use Rattle.image.proofs.record.cut_instr.Statement.{statement}
+use Rattle.image.proofs.record.cut_instr.Tie as tie
 
 returns : tie.Need-returns
 returns c = (sym (instr-past _ _ (c .if1 .taken)), (omega arith, omega arith, omega arith))
@@ -55,8 +55,8 @@ returns-2 : tie.Need-returns-2
 unfolding form1Instr
 returns-2 c = (rw (← c .before .before .before .before .before .u8-at .ensures, ← c .before .before .before .before .u8-at2 .ensures, ← c .before .before .before .u16-at .ensures, ← c .before .before .u16-at2 .ensures, ← c .before .u16-at3 .ensures, ← c .u32-at .ensures), (omega arith, omega arith, omega arith))
 
-pub instr-at-spec : {M : Type 1} → statement M
-instr-at-spec =
+pub cut-instr-spec : {M : Type 1} → statement M
+cut-instr-spec =
     tie.close
     (tie.spec
     returns
