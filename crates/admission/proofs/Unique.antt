@@ -6,9 +6,11 @@ use mathlib.Core.List.{List}
 use lib.ListN.{getD}
 use lib.Dec.{eqb}
 use Rattle.basis.specs.Choice.{pick}
+use Rattle.runtime.specs.declared.CoreAdmissionProfile.{CoreAdmissionProfile}
+use Rattle.image.specs.Records.{RecordLayout}
 use Rattle.image.specs.declared.ImageFault.the-variants.{Short, Form, Layout, FunctionTable, Instruction}
 use Rattle.image.proofs.Unique.{faultOf}
-use Rattle.admission.specs.Verdict.{verdictNumbers}
+use Rattle.admission.specs.Verdict.{verdictNumbers, verdict}
 use Rattle.admission.specs.declared.CoreValidation.{CoreValidation}
 use Rattle.admission.specs.declared.CoreValidation.the-variants.{Admitted, Image, ZeroLimit, UnboundedLimit, EmptyProgram, InvalidEntry, TooManyFunctions, TooManyRegisters, TooManyInstructions, InvalidRegister, InvalidJump, InvalidCall, MissingReturn, InvalidArgWindow}
 
@@ -56,3 +58,7 @@ verdict-back (InvalidArgWindow k b n) = refl
 
 pub verdict-unique : (v u : CoreValidation) → verdictNumbers v ≡ verdictNumbers u → v ≡ u
 verdict-unique v u e = sym (verdict-back v) ∙ ap verdictOf e ∙ verdict-back u
+
+-- just one verdict meets the promise of `validate_program`
+pub one-verdict : (L : RecordLayout) (s : List ℕ) (profile : CoreAdmissionProfile) (v u : CoreValidation) → verdictNumbers v ≡ verdict L s profile → verdictNumbers u ≡ verdict L s profile → v ≡ u
+one-verdict L s profile v u p q = verdict-unique v u (p ∙ sym q)

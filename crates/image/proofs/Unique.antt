@@ -6,7 +6,8 @@ use mathlib.Core.List.{List}
 use lib.ListN.{getD}
 use lib.Dec.{eqb}
 use Rattle.basis.specs.Choice.{pick}
-use Rattle.image.specs.Image.{checkNumbers}
+use Rattle.image.specs.Records.{RecordLayout}
+use Rattle.image.specs.Image.{checkNumbers, imageFault}
 use Rattle.image.specs.declared.ImageFault.{ImageFault}
 use Rattle.image.specs.declared.ImageFault.the-variants.{Short, Form, Layout, FunctionTable, Instruction}
 use Rattle.image.specs.declared.ImageCheck.{ImageCheck}
@@ -33,3 +34,7 @@ check-back (Fault (Instruction k)) = refl
 
 pub check-unique : (a b : ImageCheck) → checkNumbers a ≡ checkNumbers b → a ≡ b
 check-unique a b e = sym (check-back a) ∙ ap checkOf e ∙ check-back b
+
+-- just one answer meets the promise of `check_image`
+pub one-check : (L : RecordLayout) (s : List ℕ) (a b : ImageCheck) → checkNumbers a ≡ imageFault L s → checkNumbers b ≡ imageFault L s → a ≡ b
+one-check L s a b p q = check-unique a b (p ∙ sym q)
