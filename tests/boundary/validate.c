@@ -494,31 +494,38 @@ static void run_code_cases(struct image *image)
     }
 }
 
-/* ---- Slices as long as 2^32 bytes and longer, of which only the first page is ever written ---- */
+/* ---- Slices about as long as 2^32 bytes. A Nop is twelve zeros, so the first page alone is written, and the others stay shared ---- */
 
 static const struct huge_case {
     const char *name;
     uint64_t len;
+    uint32_t instrs; /* of the one function */
+    struct expected expected;
 } huge_cases[] = {
-    {"document 01's image in 2^32 - 1 bytes", 4294967295u},
-    {"document 01's image in 2^32 bytes", 4294967296u},
-    {"document 01's image in 2^32 + 64 bytes, 64 in the low half", 4294967296u + 64},
+    {"2 instructions in 2^32 - 1 bytes", 4294967295u, 2, {KNIT_LAYOUT, {0}}},
+    {"2 instructions in 2^32 bytes", 4294967296u, 2, {KNIT_LAYOUT, {0}}},
+    {"2 instructions in 2^32 + 64 bytes, 64 in the low half", 4294967360u, 2, {KNIT_LAYOUT, {0}}},
+    {"the longest image", 4294967284u, 357913937, {KNIT_TOO_MANY_INSTRUCTIONS, {0, 357913937, 8192}}},
+    {"one instruction more, of which 32 bits leave total 0", 4294967296u, 357913938, {KNIT_LAYOUT, {0}}},
 };
 
-static void run_huge_cases(void)
+static void run_huge_cases(struct image *image)
 {
-    static const struct expected layout = {KNIT_LAYOUT, {0}};
-    size_t len = (size_t)huge_cases[COUNT(huge_cases) - 1].len, page = (size_t)sysconf(_SC_PAGESIZE), i;
+    size_t len = (size_t)4294967360u, page = (size_t)sysconf(_SC_PAGESIZE), i;
     uint8_t *at = (uint8_t *)mmap(NULL, len, PROT_READ, MAP_PRIVATE | MAP_ANONYMOUS | MAP_NORESERVE, -1, 0);
-    if ((void *)at == MAP_FAILED || mprotect(at, page, PROT_READ | PROT_WRITE) != 0)
+    if ((void *)at == MAP_FAILED)
         give_up("2^32 bytes");
-    memcpy(at, document_01, sizeof document_01);
-    if (mprotect(at, page, PROT_READ) != 0)
-        give_up("mprotect");
     for (i = 0; i < COUNT(huge_cases); i++) {
+        put_header(image, 0, 1, huge_cases[i].instrs);
+        put_function(image, 1, 0, huge_cases[i].instrs);
+        if (mprotect(at, page, PROT_READ | PROT_WRITE) != 0)
+            give_up("mprotect");
+        memcpy(at, image->bytes, image->len);
+        if (mprotect(at, page, PROT_READ) != 0)
+            give_up("mprotect");
         current = huge_cases[i].name;
         cases++;
-        wrong += !call_is_right(at, (size_t)huge_cases[i].len, &safe, &layout);
+        wrong += !call_is_right(at, (size_t)huge_cases[i].len, &safe, &huge_cases[i].expected);
     }
     munmap(at, len);
 }
@@ -535,7 +542,7 @@ int main(void)
     run_length_cases(&image);
     run_size_cases(&image);
     run_code_cases(&image);
-    run_huge_cases();
+    run_huge_cases(&image);
     printf("boundary (%s): %lu cases, %lu wrong\n", LANGUAGE, cases, wrong);
     return wrong == 0 ? 0 : 1;
 }
