@@ -1,4 +1,4 @@
--- The worked cases that document 01 marks P, one row for each.
+-- The worked cases that document 01 marks P, one row for each, and its own image.
 use Prim.Native.Nat.{ℕ, _^_}
 use mathlib.Core.Path.{_≡_}
 use mathlib.Core.List.{List, [], _∷_}
@@ -8,8 +8,9 @@ use Rattle.runtime.specs.declared.CoreTrap.the-variants.{TypeMismatch, Division
 use Rattle.value.specs.Checked.{payload}
 use Rattle.value.specs.Value.{boolKind, i32Kind, fxKind, register}
 use Rattle.instr.specs.declared.Instr.{Instr}
+use Rattle.image.specs.Records.{form1}
 use Rattle.image.specs.Program.{Program, noInstr}
-use Rattle.admission.specs.Verdict.{verdictNumbers, programFault}
+use Rattle.admission.specs.Verdict.{verdictNumbers, programFault, verdict}
 use Rattle.admission.specs.declared.CoreValidation.{CoreValidation}
 use Rattle.admission.specs.declared.CoreValidation.the-variants.{Admitted, InvalidRegister, MissingReturn, InvalidArgWindow}
 use Rattle.operate.specs.declared.Outcome.{Outcome}
@@ -59,16 +60,28 @@ CallItself dst base = record { op = 54; small = 0; a = dst; b = 0; c = base; w =
 abbrev pub alone : ℕ → List Instr → Program
 alone regs code = record { entry = 0; functions = record { name = 0; regs = regs; code = code } ∷ [] }
 
+-- the image that document 01 writes out: one function of one register, which loads -1 and returns it
+abbrev pub documentImage : List ℕ
+documentImage =
+    1 ∷ 0 ∷ 0 ∷ 0 ∷ 1 ∷ 0 ∷ 0 ∷ 0 ∷ 2 ∷ 0 ∷ 0 ∷ 0 ∷ 24 ∷ 0 ∷ 0 ∷ 0 ∷ 40 ∷ 0 ∷ 0 ∷ 0 ∷ 64 ∷ 0 ∷ 0 ∷ 0
+    ∷ 7 ∷ 0 ∷ 0 ∷ 0 ∷ 1 ∷ 0 ∷ 0 ∷ 0 ∷ 0 ∷ 0 ∷ 0 ∷ 0 ∷ 2 ∷ 0 ∷ 0 ∷ 0
+    ∷ 6 ∷ 0 ∷ 0 ∷ 0 ∷ 0 ∷ 0 ∷ 0 ∷ 0 ∷ 255 ∷ 255 ∷ 255 ∷ 255
+    ∷ 55 ∷ 0 ∷ 0 ∷ 0 ∷ 0 ∷ 0 ∷ 0 ∷ 0 ∷ 0 ∷ 0 ∷ 0 ∷ 0
+    ∷ []
+
 pub data Edge : Type 0 where
   -- an opcode on two registers computes this
   operation : ℕ → ℕ → ℕ → Outcome → Edge
   -- a program has this verdict under the safe profile
   admission : Program → CoreValidation → Edge
+  -- so have these bytes
+  image : List ℕ → CoreValidation → Edge
 
 -- what a row says
 unfoldable pub Holds : Edge → Type 0
 Holds (operation op lhs rhs answer) = operated op (record { op = op; small = 0; a = 0; b = 0; c = 1; w = 0 }) (lhs ∷ rhs ∷ []) ≡ answer
 Holds (admission p answer) = programFault safeProfile p ≡ verdictNumbers answer
+Holds (image bytes answer) = verdict form1 bytes safeProfile ≡ verdictNumbers answer
 
 unfoldable pub edges : List Edge
 edges =
@@ -84,6 +97,7 @@ edges =
     ∷ Edge.admission (alone 0 (Ret 0 ∷ [])) (InvalidRegister 0 0)
     ∷ Edge.admission (alone 1 (CallItself 0 1 ∷ Ret 0 ∷ [])) Admitted
     ∷ Edge.admission (alone 1 (CallItself 0 2 ∷ Ret 0 ∷ [])) (InvalidArgWindow 0 2 0)
+    ∷ Edge.image documentImage Admitted
     ∷ []
 
 -- every row of a list

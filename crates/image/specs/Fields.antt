@@ -96,6 +96,9 @@ forms =
     ∷ call ∷ one
     ∷ []
 
+abbrev pub opcodes : ℕ
+opcodes = 56
+
 -- what is no opcode has no fields
 unfoldable pub fieldsOf : ℕ → Fields
 fieldsOf op = getD forms op bare

@@ -6,7 +6,7 @@ use lib.ListN.{length}
 use lib.Dec.{eqb, leb, ltb}
 use Rattle.basis.specs.Answers.{demand, orElse, firstOf}
 use Rattle.instr.specs.declared.Instr.{Instr}
-use Rattle.image.specs.Fields.{most, fieldsOf}
+use Rattle.image.specs.Fields.{most, opcodes, fieldsOf}
 use Rattle.image.specs.Records.{headerSize, headerOf, functionNo, startOf, RecordLayout, functionPlace, instrPlace, instrNo}
 use Rattle.image.specs.declared.record.Header.{Header}
 use Rattle.image.specs.declared.ImageFault.{ImageFault}
@@ -50,11 +50,11 @@ tableFault bytes functions instructions =
 unfoldable pub within : Instr → ℕ → ℕ → ℕ → ℕ → ℕ → Bool
 within i small a b c w = leb (i .small) small && (leb (i .a) a && (leb (i .b) b && (leb (i .c) c && leb (i .w) w)))
 
--- one of the 56 opcodes, and no field past what the opcode uses it for
+-- one of the opcodes, and no field past what the opcode uses it for
 unfoldable pub recordHolds : Instr → Bool
 recordHolds i =
     let u = fieldsOf (i .op) in
-    ltb (i .op) 56 && within i (most (u .small)) (most (u .a)) (most (u .b)) (most (u .c)) (most (u .w))
+    ltb (i .op) opcodes && within i (most (u .small)) (most (u .a)) (most (u .b)) (most (u .c)) (most (u .w))
 
 -- instruction k of all
 unfoldable pub recordFault : (ℕ → Instr) → ℕ → List ℕ

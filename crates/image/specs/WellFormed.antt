@@ -4,12 +4,12 @@ use mathlib.Core.Path.{_≡_}
 use mathlib.Core.List.{List}
 use lib.ListN.{length}
 use Rattle.instr.specs.declared.Instr.{Instr}
-use Rattle.image.specs.Fields.{most, fieldsOf}
+use Rattle.image.specs.Fields.{most, opcodes, fieldsOf}
 use Rattle.image.specs.Records.{headerSize, headerOf, functionNo, RecordLayout, functionPlace, instrPlace, instrNo, startOf}
 
--- an instruction's record: one of the 56 opcodes, and no field past what the opcode uses it for
+-- an instruction's record: one of the opcodes, and no field past what the opcode uses it for
 pub record Lawful (i : Instr) : Type 0 where
-  pub opcode : i .op < 56
+  pub opcode : i .op < opcodes
   pub small : i .small ≤ most (fieldsOf (i .op) .small)
   pub a : i .a ≤ most (fieldsOf (i .op) .a)
   pub b : i .b ≤ most (fieldsOf (i .op) .b)
