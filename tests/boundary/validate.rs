@@ -1,6 +1,7 @@
 //! `knit_validate` as a caller in Rust sees it, linked with the archive.
 
 use std::process::ExitCode;
+use std::thread;
 
 extern "C" {
     fn knit_validate(
@@ -17,6 +18,8 @@ extern "C" {
 
 const WORDS: usize = 5;
 const BESIDE: usize = 2;
+const THREADS: usize = 4;
+const ROUNDS: usize = 500;
 const FILL: u64 = 0xA5A5_A5A5_A5A5_A5A5;
 
 #[rustfmt::skip]
@@ -180,9 +183,26 @@ fn is_right(case: &Case) -> bool {
     true
 }
 
+fn wrong_of(cases: &[Case]) -> usize {
+    cases.iter().filter(|case| !is_right(case)).count()
+}
+
+/// The header lets calls run side by side, on the same image too: were anything kept between them, some answer would be another's.
+fn wrong_side_by_side(cases: &[Case]) -> usize {
+    let rounds = || (0..ROUNDS).map(|_| wrong_of(cases)).sum::<usize>();
+    thread::scope(|scope| {
+        let threads: Vec<_> = (0..THREADS).map(|_| scope.spawn(rounds)).collect();
+        // A thread that ended early counts as a wrong case.
+        threads.into_iter().map(|one| one.join().unwrap_or(1)).sum()
+    })
+}
+
 fn main() -> ExitCode {
     let cases = cases();
-    let wrong = cases.iter().filter(|case| !is_right(case)).count();
-    println!("boundary (Rust): {} cases, {wrong} wrong", cases.len());
+    let wrong = wrong_of(&cases) + wrong_side_by_side(&cases);
+    println!(
+        "boundary (Rust): {} cases, alone and {ROUNDS} times in {THREADS} threads, {wrong} wrong",
+        cases.len()
+    );
     ExitCode::from(u8::from(wrong != 0))
 }

@@ -3,7 +3,6 @@ use mathlib.Core.Path.{refl}
 use Rattle.operate.specs.Opcodes.{rules, ruleOf}
 use Rattle.operate.specs.Operate.{readAs, readTwo, readDividing, readShortcut, computed}
 use Rattle.basis.specs.Answers.{firstOf}
-use Rattle.basis.proofs.Ranges.{_&_}
 use Rattle.runtime.specs.Profile.{profileFault}
 use Rattle.basis.specs.Bytes.{byteAt, halfAt, wordAt}
 use Rattle.image.specs.Fields.{forms, fieldsOf}
@@ -15,4 +14,4 @@ use Rattle.assurance.specs.Edges.{Holds, Each, edges}
 
 pub edges-hold : Each edges
 unfolding Holds Each edges rules ruleOf readAs readTwo readDividing readShortcut computed firstOf profileFault forms fieldsOf registerFault jumpFault callFault windowFault fieldFault fieldsFault instrFault returnsBefore codeFault functionFault programFault byteAt halfAt wordAt headerOf functionAt form1Instr startOf layoutHolds rowFault tableFault within recordHolds recordFault imageFault listed functionOf decode verdict
-edges-hold = refl & refl & refl & refl & refl & refl & refl & refl & refl & refl & refl & refl & refl & tt
+edges-hold = (refl, (refl, (refl, (refl, (refl, (refl, (refl, (refl, (refl, (refl, (refl, (refl, (refl, tt)))))))))))))
