@@ -1,8 +1,8 @@
 /*
  * Knitcauldron for callers in C and C++; link with libcapi.a.
  *
- * Document 01, the project's paper on scope and rules, says what an image is and when one is admitted. The numbers and the
- * order of the values below are that paper's.
+ * Document 01, the project's paper on scope and rules, says what an image is, when one is admitted and how one runs. The numbers
+ * and the order of the values below are that paper's.
  */
 #ifndef KNITCAULDRON_H
 #define KNITCAULDRON_H
@@ -62,6 +62,93 @@ extern "C" {
 uint64_t knit_validate(const uint8_t *image, size_t image_len,
     uint16_t max_registers, uint16_t max_functions, uint16_t max_call_depth,
     uint32_t max_instrs_per_function, uint64_t max_fuel, uint64_t answer[KNIT_ANSWER_WORDS]);
+
+/* The program has run, and returned or trapped. Answer: status; kind; payload; fuel used; digest. */
+#define KNIT_DONE 0
+
+/* Refusals for want of room: a frame would begin and the lent memory can't hold it. Answer: fuel used, 0 for the entry's frame. */
+#define KNIT_FRAME_ROOM 6    /* No record is left for it. */
+#define KNIT_REGISTER_ROOM 7 /* A record is left, but too few words for its registers. */
+
+/* How a run ended: 0, or 1 + the trap's code. A trap is a result, its value Unit. */
+#define KNIT_STATUS_RETURNED 0
+#define KNIT_STATUS_INVALID_PC 1          /* The place is at or past the function's end. This round charges nothing. */
+#define KNIT_STATUS_INVALID_REGISTER 2    /* A register that its function doesn't have, an argument's too. */
+#define KNIT_STATUS_TYPE_MISMATCH 3       /* A register holds a value of another kind than the instruction takes. */
+#define KNIT_STATUS_DIVISION_BY_ZERO 4
+#define KNIT_STATUS_INTEGER_OVERFLOW 5    /* The result is outside its type, for Fx too. */
+#define KNIT_STATUS_FUEL_EXCEEDED 6       /* The limit is used up and the program not at its end. Fuel used is the whole limit. */
+#define KNIT_STATUS_CALL_DEPTH_EXCEEDED 7 /* A Call with as many frames as max_call_depth, the entry's among them. */
+#define KNIT_STATUS_INVALID_FUNCTION 8    /* The entry, or a called function, doesn't exist. */
+#define KNIT_STATUS_ASSERT_FAILED 9
+#define KNIT_STATUS_EXPLICIT_TRAP 10
+
+/* Kinds of a value, with what the payload then is. No instruction makes a value of the last three. */
+#define KNIT_KIND_UNIT 0 /* 0 */
+#define KNIT_KIND_QUAD 1 /* 0..3: N, F, T, S */
+#define KNIT_KIND_BOOL 2 /* 0 or 1 */
+#define KNIT_KIND_I32 3  /* the number, a negative one plus 2^32 */
+#define KNIT_KIND_U32 4  /* the number */
+#define KNIT_KIND_FX 5   /* the number of 65536ths, a negative one plus 2^32 */
+#define KNIT_KIND_TUPLE 6
+#define KNIT_KIND_RECORD 7
+#define KNIT_KIND_ADT 8
+
+/* How many words a frame's record has, and which: the function's number; its place, counted in instructions from the function's
+ * first; the caller's register that the result goes to, 0 for the entry; the index of the frame's first register in `registers`. */
+#define KNIT_FRAME_WORDS 4
+#define KNIT_FRAME_FUNCTION 0
+#define KNIT_FRAME_PLACE 1
+#define KNIT_FRAME_RETURN_REGISTER 2
+#define KNIT_FRAME_FIRST_REGISTER 3
+
+/*
+ * Runs the image's entry function for at most `fuel` instructions and with at most `max_call_depth` frames at a time; the entry's
+ * frame is one of them, but begins at limit 0 as well. The caller lends all memory that the run needs: `frames_len` words for
+ * records, KNIT_FRAME_WORDS each, where up to three words left over at the end are no record; and `registers_len` words, one for
+ * each register: kind * 2^32 + payload. What these words hold before the call doesn't matter.
+ *
+ * The program need not be admitted: one that breaks the rules traps when it comes to that. No flag and no profile is read, so only
+ * the two limits given here count.
+ *
+ * Returns KNIT_DONE, an image fault (1..5), KNIT_FRAME_ROOM or KNIT_REGISTER_ROOM, and writes all five words of `answer` in each
+ * case.
+ *
+ * Enough room, so that no refusal for want of it can be: max(1, max_call_depth) records, and that many times the largest register
+ * count of any function in the image as register words.
+ *
+ * What the lent memory holds afterwards:
+ * - After an image fault, or if the entry doesn't exist or its frame is refused, all words are as they were.
+ * - Else the state that the run reached. Record 0 is the entry's; a called function's record and registers come right after its
+ *   caller's. It begins with its arguments, then Unit in all its other registers.
+ * - A place is that of the instruction to come; while a called function runs, its caller's is already the one after the Call.
+ * - A trap or a refused Call leaves the running function's record at the place of the instruction at fault; that instruction has
+ *   written nothing.
+ * - Ret writes the caller's register and nothing else, so the record and the registers of a function that returned stay until
+ *   another Call takes their place; the entry's record ends with the place of its Ret.
+ * - Words that no frame reached stay as they were.
+ *
+ * The caller guarantees:
+ * - `image` is not null and points to `image_len` readable bytes, at any alignment.
+ * - `frames` and `registers` are not null, aligned as uint64_t is, and point to `frames_len` and `registers_len` words that can be
+ *   read and written.
+ * - A pointer whose length is 0 isn't null either, and is aligned; nothing there is touched.
+ * - `answer` points to five writable words, aligned as uint64_t is.
+ * - Image, frames, registers and answer do not overlap each other.
+ * - Nobody else writes the image, or reads or writes the other three, while the call runs.
+ *
+ * In return the call reads nothing but the image and the lent words, and writes nothing but those words and the answer. There is no
+ * state: equal arguments get equal answers, no call has to come first, and calls may run in parallel, also on the same image.
+ */
+uint64_t knit_execute(const uint8_t *image, size_t image_len, uint64_t fuel, uint16_t max_call_depth,
+    uint64_t *frames, size_t frames_len, uint64_t *registers, size_t registers_len, uint64_t answer[KNIT_ANSWER_WORDS]);
+
+/*
+ * The digest of a run's first four words. knit_execute gives it as the fifth; this is for words that came from elsewhere, and takes
+ * any: from 0xcbf29ce484222325 on, exclusive or with a word and then times 2^44 + 435 modulo 2^64, for status, kind, payload, 0 and
+ * fuel used in turn. It is not FNV, whose prime is another.
+ */
+uint64_t knit_digest(uint64_t status, uint64_t kind, uint64_t payload, uint64_t fuel_used);
 
 #ifdef __cplusplus
 }

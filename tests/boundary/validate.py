@@ -1,75 +1,12 @@
-"""knit_validate as a caller in Python sees it: validate.py LIBRARY, a shared library made from the archive.
-
-Images are passed as bytes objects, without a copy, as a publisher's script would do it.
-"""
+"""knit_validate as a caller in Python sees it: validate.py LIBRARY, a shared library made from the archive."""
 
 import ctypes
-import struct
+import functools
 import sys
 
+from boundary import ANSWER_WORDS, DOCUMENT_01, Lent, call, count, image, jump, load, nop, own_copy, patched, ret
+
 SAFE = (256, 256, 64, 8192, 1_000_000)
-WORDS = 5
-BESIDE = 2
-FILL = 0xA5A5_A5A5_A5A5_A5A5
-
-DOCUMENT_01 = bytes.fromhex(
-    "01 00 00 00 01 00 00 00 02 00 00 00 18 00 00 00 28 00 00 00 40 00 00 00 07 00 00 00 01 00 00 00"
-    "00 00 00 00 02 00 00 00 06 00 00 00 00 00 00 00 ff ff ff ff 37 00 00 00 00 00 00 00 00 00 00 00"
-)
-
-
-def load(path):
-    """The function, with its types said: Python would otherwise pass every number as a C int."""
-    function = ctypes.CDLL(path).knit_validate
-    function.restype = ctypes.c_uint64
-    function.argtypes = [
-        ctypes.c_char_p,
-        ctypes.c_size_t,
-        ctypes.c_uint16,
-        ctypes.c_uint16,
-        ctypes.c_uint16,
-        ctypes.c_uint32,
-        ctypes.c_uint64,
-        ctypes.c_uint64 * WORDS,
-    ]
-    return function
-
-
-def instr(op, small=0, a=0, b=0, c=0, w=0):
-    return struct.pack("<BBHHHI", op, small, a, b, c, w)
-
-
-def nop():
-    return instr(0)
-
-
-def jump(target):
-    return instr(51, w=target)
-
-
-def call(dst, function, base, count):
-    return instr(54, a=dst, b=function, c=base, w=count)
-
-
-def ret(src):
-    return instr(55, a=src)
-
-
-def image(entry, *functions):
-    """An image of functions, each given as (registers, [instructions])."""
-    table, code, first = b"", b"", 0
-    for regs, body in functions:
-        table += struct.pack("<IHHII", 1000 + first, regs, 0, first, len(body))
-        code += b"".join(body)
-        first += len(body)
-    offset = 24 + len(table)
-    header = struct.pack("<HHIIIII", 1, entry, len(functions), first, 24, offset, offset + len(code))
-    return header + table + code
-
-
-def patched(data, at, piece):
-    return data[:at] + piece + data[at + len(piece) :]
-
 
 GOOD = (1, [ret(0)])
 
@@ -118,14 +55,13 @@ def cases():
 
 def fault_of(function, data, limits, number, values):
     """What is wrong with the call's result, or nothing."""
-    lent = (ctypes.c_uint64 * (WORDS + 2 * BESIDE))(*[FILL] * (WORDS + 2 * BESIDE))
-    answer = (ctypes.c_uint64 * WORDS).from_buffer(lent, BESIDE * ctypes.sizeof(ctypes.c_uint64))
-    before = bytes(bytearray(data))  # a copy of its own: bytes(data) would be the same object
-    got = (function(data, len(data), *limits, answer), list(answer))
-    expected = (number, values + [0] * (WORDS - len(values)))
+    lent = Lent(ANSWER_WORDS)
+    before = own_copy(data)
+    got = (function(data, len(data), *limits, lent.words), list(lent.words))
+    expected = (number, values + [0] * (ANSWER_WORDS - len(values)))
     if got != expected:
         return f"expected {expected}, got {got}"
-    if list(lent[:BESIDE]) + list(lent[-BESIDE:]) != [FILL] * (2 * BESIDE):
+    if not lent.stayed_beside():
         return "expected the words beside the answer as they were, got others"
     if data != before:
         return "expected the image as it was, got other bytes"
@@ -133,16 +69,19 @@ def fault_of(function, data, limits, number, values):
 
 
 def main():
-    function = load(sys.argv[1])
-    wrong = 0
-    rows = cases()
-    for name, *row in rows:
-        fault = fault_of(function, *row)
-        if fault:
-            wrong += 1
-            print(f"wrong: {name}: {fault}")
-    print(f"boundary (Python): {len(rows)} cases, {wrong} wrong")
-    return 1 if wrong else 0
+    function = load(
+        sys.argv[1],
+        "knit_validate",
+        ctypes.c_char_p,
+        ctypes.c_size_t,
+        ctypes.c_uint16,
+        ctypes.c_uint16,
+        ctypes.c_uint16,
+        ctypes.c_uint32,
+        ctypes.c_uint64,
+        ctypes.c_uint64 * ANSWER_WORDS,
+    )
+    return count("knit_validate", cases(), functools.partial(fault_of, function))
 
 
 if __name__ == "__main__":

@@ -19,7 +19,7 @@ use Rattle.image.specs.Records.{RecordLayout}
 use Rattle.image.specs.WellFormed.{WellFormed}
 use Rattle.image.specs.Program.{Program, decode}
 use Rattle.image.proofs.Agree.{well-formed}
-use Rattle.admission.specs.Parts.{functionsOf, regsOf, lengthOf, codeOf, Ret}
+use Rattle.image.specs.Parts.{functionsOf, regsOf, lengthOf, codeOf, Ret}
 use Rattle.admission.specs.Verdict.{verdictNumbers, registerFault, jumpFault, callFault, windowFault, fieldFault, fieldsFault, instrFault, returnsBefore, codeFault, functionFault, programFault, verdict}
 use Rattle.admission.specs.declared.CoreValidation.{CoreValidation}
 use Rattle.admission.specs.declared.CoreValidation.the-variants.{Admitted}

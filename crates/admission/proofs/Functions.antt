@@ -11,7 +11,7 @@ use Rattle.basis.proofs.First.{or-unfine, first-next, first-found}
 use Rattle.runtime.specs.declared.CoreAdmissionProfile.{CoreAdmissionProfile}
 use Rattle.instr.specs.declared.Instr.{Instr}
 use Rattle.image.specs.Program.{Program}
-use Rattle.admission.specs.Parts.{regsOf, lengthOf, codeOf, Ret}
+use Rattle.image.specs.Parts.{regsOf, lengthOf, codeOf, Ret}
 use Rattle.admission.specs.Verdict.{instrFault, returnsBefore, codeFault, functionFault}
 
 module _ (p : Program) (k : ℕ) where

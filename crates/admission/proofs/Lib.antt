@@ -1,4 +1,3 @@
-pub mod Parts
 pub mod Operands
 pub mod Functions
 pub mod Programs

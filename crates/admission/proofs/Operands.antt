@@ -8,7 +8,7 @@ use Rattle.basis.proofs.Ranges.{_&_, each}
 use Rattle.instr.specs.declared.Instr.{Instr}
 use Rattle.image.specs.Fields.{Fields, forms, fieldsOf, bare, two, three, jump, branch, call}
 use Rattle.image.specs.Program.{Program}
-use Rattle.admission.specs.Parts.{functionsOf, regsOf, lengthOf}
+use Rattle.image.specs.Parts.{functionsOf, regsOf, lengthOf}
 use Rattle.admission.specs.Verdict.{registerFault, jumpFault, callFault, windowFault, fieldFault, fieldsFault, instrFault}
 
 module _ (p : Program) (k : ℕ) (i : Instr) (op : ℕ) (e : op ≡ i .op) (v : List ℕ) where

@@ -12,7 +12,7 @@ use Rattle.image.specs.Image.{faultNumbers, imageFault}
 use Rattle.image.specs.Program.{Program, decode}
 use Rattle.image.specs.declared.ImageFault.{ImageFault}
 use Rattle.image.proofs.Checks.{fault-first}
-use Rattle.admission.specs.Parts.{functionsOf}
+use Rattle.image.specs.Parts.{functionsOf}
 use Rattle.admission.specs.Verdict.{functionFault, programFault, verdict}
 
 module _ (profile : CoreAdmissionProfile) (p : Program) where

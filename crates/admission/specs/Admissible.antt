@@ -7,7 +7,7 @@ use Rattle.instr.specs.declared.Instr.{Instr}
 use Rattle.image.specs.Fields.{Use, fieldsOf}
 use Rattle.image.specs.Fields.Use.{unused, register, quad, bool, signed, unsigned, target, callee, argBase, argCount}
 use Rattle.image.specs.Program.{Program}
-use Rattle.admission.specs.Parts.{functionsOf, regsOf, lengthOf, codeOf, Ret}
+use Rattle.image.specs.Parts.{functionsOf, regsOf, lengthOf, codeOf, Ret}
 
 -- what a field x of an instruction i of function k may be, by its use
 abbrev pub Allowed : Use → Program → ℕ → Instr → ℕ → Type 0

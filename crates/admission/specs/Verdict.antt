@@ -13,7 +13,7 @@ use Rattle.image.specs.Fields.Use.{unused, register, quad, bool, signed, unsign
 use Rattle.image.specs.Records.{RecordLayout}
 use Rattle.image.specs.Image.{faultNumbers, imageFault}
 use Rattle.image.specs.Program.{Program, decode}
-use Rattle.admission.specs.Parts.{functionsOf, regsOf, lengthOf, codeOf, Ret}
+use Rattle.image.specs.Parts.{functionsOf, regsOf, lengthOf, codeOf, Ret}
 use Rattle.admission.specs.declared.CoreValidation.{CoreValidation}
 use Rattle.admission.specs.declared.CoreValidation.the-variants.{Admitted, Image, ZeroLimit, UnboundedLimit, EmptyProgram, InvalidEntry, TooManyFunctions, TooManyRegisters, TooManyInstructions, InvalidRegister, InvalidJump, InvalidCall, MissingReturn, InvalidArgWindow}
 

@@ -10,7 +10,7 @@ ghost use Prim.Native.Nat.{_^_, _<_};
 ghost use Rattle.basis.specs.Answers.{orElse};
 ghost use Rattle.image.specs.Records.{form1, headerOf, functionNo};
 ghost use Rattle.image.specs.Program.{decode};
-ghost use Rattle.admission.specs.Parts.{regsOf};
+ghost use Rattle.image.specs.Parts.{regsOf};
 ghost use Rattle.admission.specs.Verdict.{verdictNumbers, registerFault, jumpFault, callFault, windowFault, instrFault};
 
 fn check_reg(k: usize, regs: usize, reg: usize) -> CoreValidation

@@ -4,3 +4,5 @@ pub mod Checks
 pub mod Agree
 pub mod Parts
 pub mod Unique
+pub mod Numbers
+pub mod Slices

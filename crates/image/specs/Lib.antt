@@ -3,3 +3,4 @@ pub mod Records
 pub mod Image
 pub mod WellFormed
 pub mod Program
+pub mod Parts

@@ -8,6 +8,7 @@ use instr::Instr;
 ghost use mathlib.Core.Path.{_≡_};
 ghost use Prim.Native.Nat.{_+_, _^_, _≤_, _<_};
 ghost use lib.ListN.{length};
+ghost use Rattle.basis.specs.Bytes.{halfAt, wordAt};
 ghost use Rattle.image.specs.Records.{headerOf, functionAt, form1Instr};
 
 // How many bytes the records have.
@@ -51,7 +52,48 @@ pub fn header_of(image: &[u8]) -> Header
     }
 }
 
-pub fn function_at(image: &[u8], at: usize) -> FunctionRecord
+// Numbers of two and of four bytes that lie within the image. The bytes are taken as they lie, and no read asks whether it is within:
+// whoever runs a program reads its records so.
+fn half_within(image: &[u8], i: usize) -> u16
+    requires { ⌜ i + 2 ≤ length (now image) ⌝ }
+    ensures { λ r. ⌜ r ≡ halfAt (now (image .entry)) i ⌝ }
+{
+    join2(image[i], image[i + 1])
+}
+
+fn word_within(image: &[u8], i: usize) -> u32
+    requires { ⌜ i + 4 ≤ length (now image) ⌝ }
+    ensures { λ r. ⌜ r ≡ wordAt (now (image .entry)) i ⌝ }
+{
+    join4(half_within(image, i), half_within(image, i + 2))
+}
+
+// How many functions there are: a number of the header by itself, for whoever asks often.
+pub fn function_count(image: &[u8]) -> u32
+    ensures { λ r. ⌜ r ≡ headerOf (now (image .entry)) .functions ⌝ }
+{
+    if image.len() < HEADER_SIZE {
+        return u32_at(image, 4);
+    }
+    word_within(image, 4)
+}
+
+// A function record that lies wholly within the image.
+fn whole_function(image: &[u8], at: usize) -> FunctionRecord
+    requires { ⌜ at + 16 ≤ length (now image) ⌝ }
+    ensures { λ r. ⌜ r ≡ functionAt (now (image .entry)) at ⌝ }
+{
+    FunctionRecord {
+        name: word_within(image, at),
+        regs: half_within(image, at + 4),
+        zero: half_within(image, at + 6),
+        first: word_within(image, at + 8),
+        count: word_within(image, at + 12),
+    }
+}
+
+// One that the image's end cuts, or that lies past it.
+fn cut_function(image: &[u8], at: usize) -> FunctionRecord
     ensures { λ r. ⌜ r ≡ functionAt (now (image .entry)) at ⌝ }
 {
     if image.len() <= at {
@@ -72,22 +114,32 @@ pub fn function_at(image: &[u8], at: usize) -> FunctionRecord
     }
 }
 
-// A record that lies wholly within the image. Whoever runs a program reads its instructions here, so the bytes are taken as they
-// lie, and no read asks whether it is within.
+pub fn function_at(image: &[u8], at: usize) -> FunctionRecord
+    ensures { λ r. ⌜ r ≡ functionAt (now (image .entry)) at ⌝ }
+{
+    let n = image.len();
+    if n < FUNCTION_SIZE {
+        return cut_function(image, at);
+    }
+    if at > n - FUNCTION_SIZE {
+        return cut_function(image, at);
+    }
+    whole_function(image, at)
+}
+
+// An instruction record that lies wholly within the image.
 fn whole_instr(image: &[u8], at: usize) -> Instr
     requires { ⌜ at + 12 ≤ length (now image) ⌝ }
     ensures { λ r. ⌜ r ≡ form1Instr (now (image .entry)) at ⌝ }
     ensures { λ r. ⌜ (r .a < 2 ^ 16) × (r .b < 2 ^ 16) × (r .c < 2 ^ 16) ⌝ }
 {
-    let low = join2(image[at + 8], image[at + 9]);
-    let high = join2(image[at + 10], image[at + 11]);
     Instr {
         op: image[at],
         small: image[at + 1],
-        a: join2(image[at + 2], image[at + 3]) as usize,
-        b: join2(image[at + 4], image[at + 5]) as usize,
-        c: join2(image[at + 6], image[at + 7]) as usize,
-        w: join4(low, high),
+        a: half_within(image, at + 2) as usize,
+        b: half_within(image, at + 4) as usize,
+        c: half_within(image, at + 6) as usize,
+        w: word_within(image, at + 8),
     }
 }
 

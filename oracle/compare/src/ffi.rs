@@ -2,6 +2,8 @@
 
 use semantic_core_runtime::CoreAdmissionProfile;
 
+use crate::run::Asked;
+
 extern "C" {
     fn knit_validate(
         image: *const u8,
@@ -13,6 +15,20 @@ extern "C" {
         max_fuel: u64,
         answer: *mut u64,
     ) -> u64;
+
+    fn knit_execute(
+        image: *const u8,
+        image_len: usize,
+        fuel: u64,
+        max_call_depth: u16,
+        frames: *mut u64,
+        frames_len: usize,
+        registers: *mut u64,
+        registers_len: usize,
+        answer: *mut u64,
+    ) -> u64;
+
+    fn knit_digest(status: u64, kind: u64, payload: u64, fuel_used: u64) -> u64;
 }
 
 /// Asks our engine whether an image is admitted under a profile.
@@ -35,4 +51,37 @@ pub fn validate(image: &mut [u8], profile: CoreAdmissionProfile, answer: &mut [u
             answer.as_mut_ptr(),
         )
     }
+}
+
+/// Asks our engine to run an image in lent memory.
+pub fn execute(asked: Asked) -> u64 {
+    let Asked {
+        image,
+        limits,
+        frames,
+        registers,
+        answer,
+    } = asked;
+    // SAFETY: each pointer goes with the length of the slice it comes from, the
+    // answer has the five words that the call writes, all four are lent to
+    // nobody else until the call is over, and it keeps none of them.
+    unsafe {
+        knit_execute(
+            image.as_mut_ptr(),
+            image.len(),
+            limits.fuel,
+            limits.max_call_depth,
+            frames.as_mut_ptr(),
+            frames.len(),
+            registers.as_mut_ptr(),
+            registers.len(),
+            answer.as_mut_ptr(),
+        )
+    }
+}
+
+/// Asks our engine for the digest of status, kind, payload and fuel used.
+pub fn digest([status, kind, payload, used]: [u64; 4]) -> u64 {
+    // SAFETY: the call takes four numbers and touches no memory of ours.
+    unsafe { knit_digest(status, kind, payload, used) }
 }

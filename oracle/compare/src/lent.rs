@@ -70,3 +70,91 @@ impl LentWords {
         [self.before, self.after] == [WORD; 2]
     }
 }
+
+/// Words lent out for frames or registers, with some before and after them.
+///
+/// Each word differs from the others, so that one written to the wrong place,
+/// or moved, is seen as well. Two made alike can be compared as a whole.
+#[derive(Debug, Clone, PartialEq, Eq)]
+pub struct LentSlice {
+    all: Vec<u64>,
+    start: usize,
+    length: usize,
+}
+
+/// Words that stay before and after a slice.
+const AROUND: usize = 8;
+/// Odd, so that no two words of a pattern are the same.
+const STRIDE: u64 = 0x9e37_79b9_7f4a_7c15;
+
+impl LentSlice {
+    /// The salt chooses the pattern, and whether the slice begins at an even
+    /// or an odd word.
+    pub fn new(length: usize, salt: u64) -> Self {
+        let start = AROUND + (salt % 2) as usize;
+        let word = |at| (salt ^ WORD).wrapping_add(at).wrapping_mul(STRIDE);
+        let all = (0..(start + length + AROUND) as u64).map(word).collect();
+        Self { all, start, length }
+    }
+
+    pub fn lent(&mut self) -> &mut [u64] {
+        &mut self.all[self.start..self.start + self.length]
+    }
+
+    /// Where another one that was made alike differs first, with both words.
+    /// The place counts from the first word lent: what is before has none.
+    pub fn difference(&self, other: &Self) -> Option<Difference> {
+        let mut pairs = self.all.iter().zip(&other.all);
+        let at = pairs.position(|(one, other)| one != other)?;
+        let inside = at
+            .checked_sub(self.start)
+            .filter(|place| *place < self.length);
+        Some(Difference {
+            place: inside,
+            words: [self.all[at], other.all[at]],
+        })
+    }
+}
+
+/// Two lent slices that are not equal.
+#[derive(Debug, PartialEq, Eq)]
+pub struct Difference {
+    /// Nothing if the word is none of those lent.
+    pub place: Option<usize>,
+    pub words: [u64; 2],
+}
+
+#[cfg(test)]
+mod tests {
+    use super::*;
+
+    #[test]
+    fn a_word_that_was_changed_is_found() {
+        let one = LentSlice::new(5, 3);
+        assert_eq!(one.difference(&LentSlice::new(5, 3)), None);
+        let mut other = one.clone();
+        other.lent()[4] = 9;
+        let found = one.difference(&other).unwrap();
+        assert_eq!((found.place, found.words[1]), (Some(4), 9));
+        assert_ne!(one, other);
+    }
+
+    #[test]
+    fn a_word_around_is_found_and_has_no_place() {
+        for salt in [2, 3] {
+            let one = LentSlice::new(5, salt);
+            for at in [0, one.start - 1, one.start + 5, one.all.len() - 1] {
+                let mut other = one.clone();
+                other.all[at] ^= 1;
+                assert_eq!(one.difference(&other).unwrap().place, None);
+            }
+        }
+    }
+
+    #[test]
+    fn no_two_words_are_alike() {
+        let mut words = LentSlice::new(1_000, 7).all;
+        words.sort_unstable();
+        assert!(words.windows(2).all(|pair| pair[0] != pair[1]));
+    }
+}

@@ -1,10 +1,12 @@
 //! Compares our engine, linked from its archive, with the original Rust.
 //!
 //! `compare validate SEED COUNT` compares admission; `compare case SEED NUMBER`
-//! prints one of its cases as a line for `oracle answer`.
+//! prints one of its cases as a line for `oracle answer`. `compare run` and
+//! `compare run-case` do the same for runs.
 
 mod ffi;
 mod lent;
+mod run;
 mod tally;
 mod validate;
 mod worked;
@@ -19,7 +21,7 @@ use oracle::text::decimal;
 fn main() -> ExitCode {
     let arguments: Vec<String> = env::args().skip(1).collect();
     let Some(command) = Command::read(&arguments) else {
-        eprintln!("usage: compare validate SEED COUNT | case SEED NUMBER");
+        eprintln!("usage: compare validate|run SEED COUNT | case|run-case SEED NUMBER");
         return ExitCode::from(2);
     };
     match command.run() {
@@ -35,7 +37,15 @@ fn main() -> ExitCode {
 enum Command {
     Validate { seed: u64, count: u64 },
     Case { seed: u64, number: u64 },
+    Run { seed: u64, count: u64 },
+    RunCase { seed: u64, number: u64 },
 }
+
+/// Our engine, as `compare run` asks it.
+const ENGINE: run::Engine = run::Engine {
+    execute: ffi::execute,
+    digest: ffi::digest,
+};
 
 impl Command {
     fn read(arguments: &[String]) -> Option<Self> {
@@ -50,6 +60,11 @@ impl Command {
                 count: number,
             }),
             "case" => Some(Self::Case { seed, number }),
+            "run" => Some(Self::Run {
+                seed,
+                count: number,
+            }),
+            "run-case" => Some(Self::RunCase { seed, number }),
             _ => None,
         }
     }
@@ -63,6 +78,11 @@ impl Command {
             }
             Self::Case { seed, number } => {
                 writeln!(output, "{}", Case::new(seed, number).line())?;
+                true
+            }
+            Self::Run { seed, count } => run::run(ENGINE, seed, count, &mut output)?,
+            Self::RunCase { seed, number } => {
+                run::print_case(seed, number, &mut output)?;
                 true
             }
         };

@@ -120,7 +120,7 @@ fn report_generated(
 }
 
 /// As much of a line as is printed, and whether that is all of it.
-fn cut(line: &str) -> (&str, bool) {
+pub fn cut(line: &str) -> (&str, bool) {
     match line.get(..LONGEST_LINE) {
         Some(start) if line.len() > LONGEST_LINE => (start, false),
         _ => (line, true),

@@ -58,18 +58,34 @@ impl Case {
 }
 
 /// A program to run. Most are in order. One in six has an operand of any type,
-/// and some of a quarter have operands out of place: a run asks for no
-/// admission, and must end as the Rust's does all the same.
+/// one in four a Call out of place if it has a Call, and some of a quarter have
+/// other operands out of place: a run asks for no admission, and must end as
+/// the Rust's does all the same.
 pub fn program(seed: u64, number: u64) -> Program {
     let mut random = SplitMix64::for_case(seed, number);
     let mut program = typed::program(&mut random);
+    uneven_fx(&mut random, &mut program);
     if random.once_in(6) {
         misplace::any_type(&mut random, &mut program);
+    }
+    if random.once_in(4) {
+        misplace::any_call(&mut random, &mut program);
     }
     if random.once_in(4) {
         misplace::some(&mut random, &mut program);
     }
     program
+}
+
+/// Makes some Fx values a little larger. Those of programs in order are whole
+/// quarters, whose products and quotients seldom need rounding.
+fn uneven_fx(random: &mut SplitMix64, program: &mut Program) {
+    let instrs = program.functions.iter_mut().flat_map(|f| &mut f.instrs);
+    for load in instrs.filter(|record| record.opcode == 8) {
+        if random.once_in(3) {
+            load.w |= random.below(16_384) as u32;
+        }
+    }
 }
 
 #[cfg(test)]

@@ -46,14 +46,45 @@ impl Fault {
     }
 }
 
-/// Reads an image. Faults are looked for in document 01's order: length, form,
+/// An image in which no fault was found, its records as they stand.
+#[derive(Debug, Clone, PartialEq, Eq)]
+pub struct Tables {
+    pub entry: u16,
+    pub functions: Vec<FunctionRow>,
+    pub instructions: Vec<Record>,
+}
+
+#[derive(Debug, Clone, Copy, PartialEq, Eq)]
+pub struct FunctionRow {
+    pub name_id: u32,
+    pub regs: u16,
+    /// The number of its first instruction in the whole table.
+    pub first: u32,
+    pub count: u32,
+}
+
+/// Checks an image. Faults are looked for in document 01's order: length, form,
 /// layout, all functions, all instructions; the first one is the answer.
-pub fn read(image: &[u8]) -> Result<CoreProgram, Fault> {
+pub fn check(image: &[u8]) -> Result<Tables, Fault> {
     let header = Header::read(image)?;
     let (functions, instructions) = image[HEADER..].split_at(header.function_bytes());
-    let rows = function_table(functions, header.instruction_count)?;
-    let mut instrs = instruction_table(instructions)?.into_iter();
-    let functions = rows
+    Ok(Tables {
+        entry: header.entry,
+        functions: function_table(functions, header.instruction_count)?,
+        instructions: instruction_table(instructions)?,
+    })
+}
+
+/// Reads an image into the Rust's own program.
+pub fn read(image: &[u8]) -> Result<CoreProgram, Fault> {
+    let Tables {
+        entry,
+        functions,
+        instructions,
+    } = check(image)?;
+    // No record is passed over: the check refused every one that is none.
+    let mut instrs = instructions.into_iter().filter_map(Record::instruction);
+    let functions = functions
         .into_iter()
         .map(|row| CoreFunction {
             name_id: SymbolId(row.name_id),
@@ -63,7 +94,7 @@ pub fn read(image: &[u8]) -> Result<CoreProgram, Fault> {
         .collect();
     Ok(CoreProgram {
         functions,
-        entry: FunctionId(header.entry),
+        entry: FunctionId(entry),
     })
 }
 
@@ -110,20 +141,14 @@ impl Header {
     }
 }
 
-struct FunctionRow {
-    name_id: u32,
-    regs: u16,
-    count: u32,
-}
-
 /// Every function's row, its joins followed in 64 bits so that no sum wraps.
 fn function_table(table: &[u8], instruction_count: u32) -> Result<Vec<FunctionRow>, Fault> {
     let mut rows = Vec::with_capacity(table.len() / FUNCTION_RECORD);
     let mut next_first = 0;
     for (number, record) in table.chunks_exact(FUNCTION_RECORD).enumerate() {
         let zero = u16_at(record, 6);
-        let first = u64::from(u32_at(record, 8));
-        if zero != 0 || first != next_first {
+        let first = u32_at(record, 8);
+        if zero != 0 || u64::from(first) != next_first {
             return Err(Fault::FunctionTable(number as u32));
         }
         let count = u32_at(record, 12);
@@ -131,6 +156,7 @@ fn function_table(table: &[u8], instruction_count: u32) -> Result<Vec<FunctionRo
         rows.push(FunctionRow {
             name_id: u32_at(record, 0),
             regs: u16_at(record, 4),
+            first,
             count,
         });
     }
@@ -140,14 +166,14 @@ fn function_table(table: &[u8], instruction_count: u32) -> Result<Vec<FunctionRo
     Ok(rows)
 }
 
-fn instruction_table(table: &[u8]) -> Result<Vec<Instr>, Fault> {
+fn instruction_table(table: &[u8]) -> Result<Vec<Record>, Fault> {
     table
         .chunks_exact(INSTRUCTION_RECORD)
+        .map(Record::read)
         .enumerate()
-        .map(|(number, bytes)| {
-            Record::read(bytes)
-                .instruction()
-                .ok_or(Fault::Instruction(number as u32))
+        .map(|(number, record)| match record.instruction() {
+            Some(_) => Ok(record),
+            None => Err(Fault::Instruction(number as u32)),
         })
         .collect()
 }

@@ -6,6 +6,7 @@
 
 pub mod answer;
 pub mod cases;
+pub mod digest;
 pub mod edges;
 pub mod fields;
 pub mod generate;
@@ -14,6 +15,7 @@ pub mod lines;
 pub mod operate;
 pub mod program;
 pub mod random;
+pub mod reading;
 pub mod records;
 pub mod run;
 #[cfg(test)]

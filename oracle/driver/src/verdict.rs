@@ -6,7 +6,7 @@ use std::fmt;
 use semantic_core_exec::{validate_program, CoreProgram, CoreValidationError};
 use semantic_core_runtime::{CoreAdmissionProfile, CoreProfileError};
 
-use crate::image;
+use crate::image::{self, Fault};
 
 /// Every number that asking for admission may give, with its name. Document 01
 /// has no number for an admitted program; 0 is its place here.
@@ -30,8 +30,9 @@ pub const NAMES: [(u64, &str); 17] = [
     (20, "InvalidArgWindow"),
 ];
 
-/// What asking for admission gives: the number, and the answer's values in
-/// document 01's order with zeros after them.
+/// What asking for admission or for a run gives: the number, and the answer's
+/// values in document 01's order with zeros after them. It is shown as a
+/// verdict; `run::describe` shows it as the end of a run.
 #[derive(Debug, Clone, Copy, PartialEq, Eq)]
 pub struct Answer {
     pub number: u64,
@@ -39,7 +40,7 @@ pub struct Answer {
 }
 
 impl Answer {
-    /// Takes at most five values, and no answer has more than three.
+    /// Takes at most five values, and no answer has more.
     pub fn new(number: u64, values: &[u64]) -> Self {
         let mut words = [0; 5];
         words[..values.len()].copy_from_slice(values);
@@ -50,6 +51,12 @@ impl Answer {
     pub fn name(&self) -> Option<&'static str> {
         let entry = NAMES.iter().find(|(number, _)| *number == self.number);
         entry.map(|(_, name)| *name)
+    }
+}
+
+impl From<Fault> for Answer {
+    fn from(fault: Fault) -> Self {
+        Self::new(fault.number().into(), &[fault.answer().into()])
     }
 }
 
@@ -65,7 +72,7 @@ impl fmt::Display for Answer {
 pub fn of_image(image: &[u8], profile: CoreAdmissionProfile) -> Answer {
     match image::read(image) {
         Ok(program) => of_program(&program, profile),
-        Err(fault) => Answer::new(fault.number().into(), &[fault.answer().into()]),
+        Err(fault) => fault.into(),
     }
 }
 

@@ -40,16 +40,9 @@ pub fn value_word(value: CoreValue) -> u64 {
 #[cfg(test)]
 mod tests {
     use super::*;
+    use crate::digest::digest;
     use semantic_core_exec::{AdtRef, CoreResult, CoreResultDigest, Fx, RecordRef, TupleRef};
     use semantic_core_quad::QuadState;
-
-    /// Document 01's digest over five words.
-    fn digest(words: [u64; 5]) -> u64 {
-        let prime = (1u64 << 44) + 435;
-        words.iter().fold(0xcbf2_9ce4_8422_2325, |acc: u64, word| {
-            (acc ^ word).wrapping_mul(prime)
-        })
-    }
 
     #[test]
     fn kind_and_payload_are_the_digests_second_and_third_word() {
@@ -68,8 +61,8 @@ mod tests {
             let (kind, payload) = kind_and_payload(value);
             assert_eq!((kind, payload), expected);
             let result = CoreResult::returned(value, 9);
-            let words = [0, kind, u64::from(payload), 0, 9];
-            assert_eq!(CoreResultDigest::from_result(&result).0, digest(words));
+            let expected = digest([0, kind, u64::from(payload), 9]);
+            assert_eq!(CoreResultDigest::from_result(&result).0, expected);
         }
     }
 

@@ -56,6 +56,24 @@ pub fn any_type(random: &mut SplitMix64, program: &mut Program) -> Option<()> {
     Some(())
 }
 
+/// Lets one or two things about a Call be out of place: where its result goes,
+/// whom it calls, an empty window, which may stand anywhere, or one too large.
+pub fn any_call(random: &mut SplitMix64, program: &mut Program) -> Option<()> {
+    let place = find(random, program, is_call)?;
+    let count = program.functions.len();
+    let regs = program.functions[place.0].regs;
+    let call = at(program, place);
+    for _ in 0..random.between(1, 2) {
+        match random.below(4) {
+            0 => call.a = off_registers(random, regs) as u16,
+            1 => call.b = off_functions(random, count),
+            2 => (call.c, call.w) = (off_registers(random, regs) as u16, 0),
+            _ => call.w = u32::from(regs.saturating_add(1)),
+        }
+    }
+    Some(())
+}
+
 fn register(random: &mut SplitMix64, program: &mut Program) -> Option<()> {
     let place = some_instruction(random, program)?;
     let regs = program.functions[place.0].regs;

@@ -154,6 +154,24 @@ fn programs_to_run_end_in_every_way() {
     assert!(endings[&None] > RUNS / 2, "{endings:?}");
 }
 
+/// Each of these by itself in some of them, since one may hide another.
+#[test]
+fn programs_to_run_have_calls_out_of_place() {
+    let (mut dst, mut window, mut fx) = (0, 0, 0);
+    for function in (0..RUNS).flat_map(|number| program(1, number).functions) {
+        let regs = function.regs;
+        for record in &function.instrs {
+            let call = record.opcode == 54;
+            dst += u64::from(call && record.a >= regs);
+            window += u64::from(call && record.w == 0 && record.c > regs);
+            fx += u64::from(record.opcode == 8 && record.w % 16_384 != 0);
+        }
+    }
+    assert!(dst > RUNS / 50, "{dst}");
+    assert!(window > RUNS / 50, "{window}");
+    assert!(fx > RUNS, "{fx}");
+}
+
 #[test]
 fn the_sizes_at_a_limit_and_past_it_occur() {
     let answers: HashSet<(u64, [u64; 5])> = (0..CASES)

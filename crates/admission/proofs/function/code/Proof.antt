@@ -8,9 +8,9 @@ use Rattle.basis.specs.Answers.{firstOf}
 use Rattle.basis.proofs.First.{first-none}
 use Rattle.image.specs.Records.{form1}
 use Rattle.image.specs.Program.{decode}
-use Rattle.admission.specs.Parts.{lengthOf, codeOf}
+use Rattle.image.specs.Parts.{lengthOf, codeOf}
 use Rattle.admission.specs.Verdict.{returnsBefore}
-use Rattle.admission.proofs.Parts.{numbers, fetched}
+use Rattle.image.proofs.Numbers.{numbers, fetched}
 use Rattle.admission.proofs.Functions.{faultAt, returns-more, code-more, code-found, code-fine, code-missing}
 use Rattle.admission.proofs.function.code.Statement.{statement}
 use Rattle.admission.proofs.function.code.Tie as tie

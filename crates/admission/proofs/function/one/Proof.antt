@@ -1,7 +1,7 @@
 use mathlib.Core.Path.{_∙_}
 use native.Mathlib.Omega.{arith}
 use Rattle.image.specs.Records.{form1}
-use Rattle.admission.proofs.Parts.{numbers}
+use Rattle.image.proofs.Numbers.{numbers}
 use Rattle.admission.proofs.Functions.{too-wide, too-long, by-code}
 use borrow.Author.Needs.{needs}
 use Rattle.admission.proofs.function.one.Statement.{statement}

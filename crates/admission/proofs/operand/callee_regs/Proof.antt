@@ -3,7 +3,7 @@ use mathlib.Core.Path.{sym, _∙_, ap}
 use native.Mathlib.Omega.{arith}
 use Rattle.image.specs.Records.{form1, headerOf}
 use Rattle.image.specs.declared.record.FunctionRecord.{FunctionRecord}
-use Rattle.admission.proofs.Parts.{regs-in, regs-out}
+use Rattle.image.proofs.Numbers.{regs-in, regs-out}
 use borrow.Author.Needs.{needs}
 use Rattle.admission.proofs.operand.callee_regs.Statement.{statement}
 use Rattle.admission.proofs.operand.callee_regs.Tie as tie

@@ -4,7 +4,7 @@ use native.Mathlib.Omega.{arith}
 use Rattle.image.specs.Fields.{forms, fieldsOf, bare, two, three, jump, branch, call}
 use Rattle.image.specs.Records.{form1}
 use Rattle.image.proofs.Forms.{takes, form-run, no-form, above}
-use Rattle.admission.proofs.Parts.{numbers}
+use Rattle.image.proofs.Numbers.{numbers}
 use Rattle.admission.proofs.Operands.{in-bare, in-two, in-three, in-jump, in-branch, in-call, in-loads, in-ret}
 use borrow.Author.Needs.{needs}
 use Rattle.admission.proofs.operand.check_instr.Statement.{statement}

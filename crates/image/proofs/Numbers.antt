@@ -5,11 +5,11 @@ use mathlib.Core.List.{List}
 use lib.ListN.{length}
 use native.Mathlib.Omega.{arith}
 use Rattle.instr.specs.declared.Instr.{Instr}
 use Rattle.image.specs.Records.{headerOf, functionNo, RecordLayout, form1, instrPlace, instrNo, form1Instr}
 use Rattle.image.specs.Program.{Function, decode, instrIn}
 use Rattle.image.specs.declared.record.FunctionRecord.{FunctionRecord}
 use Rattle.image.proofs.Parts.{functions-length, function-in, function-out, regs-is, code-length, code-at}
-use Rattle.admission.specs.Parts.{functionsOf, regsOf, lengthOf, codeOf}
+use Rattle.image.specs.Parts.{functionsOf, regsOf, lengthOf, codeOf}
 
 module _ (L : RecordLayout) (s : List ℕ) (k : ℕ) where
   pub regs-out : headerOf s .functions ≤ k → regsOf (decode L s) k ≡ 0

@@ -2,8 +2,8 @@ use Rattle.image.specs.Records.{functionAt}
 use mathlib.Core.Path.{sym}
 use Rattle.image.proofs.Bytes.{function-past}
 use borrow.Author.Needs.{needs}
-use Rattle.image.proofs.record.function_at.Statement.{statement}
-use Rattle.image.proofs.record.function_at.Tie as tie
+use Rattle.image.proofs.record.cut_function.Statement.{statement}
+use Rattle.image.proofs.record.cut_function.Tie as tie
 
 returns : tie.Need-returns
 returns c = sym (function-past _ _ (c .if1 .taken))
@@ -39,8 +39,8 @@ returns-2 : tie.Need-returns-2
 unfolding functionAt
 returns-2 c = rw (← c .before .before .before .before .u32-at .ensures, ← c .before .before .before .u16-at .ensures, ← c .before .before .u16-at2 .ensures, ← c .before .u32-at2 .ensures, ← c .u32-at3 .ensures)
 
-pub function-at-spec : {M : Type 1} → statement M
-function-at-spec =
+pub cut-function-spec : {M : Type 1} → statement M
+cut-function-spec =
     tie.close
     (tie.spec
     returns

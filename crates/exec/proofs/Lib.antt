@@ -1,0 +1,14 @@
+pub mod Parts
+pub mod Lists
+pub mod Runs
+pub mod Bursts
+pub mod Keeps
+pub mod Stretches
+pub mod Outer
+pub mod Single
+pub mod Facts
+pub mod Charged
+pub mod Leaving
+pub mod Standing
+pub mod Entry
+pub mod Whole

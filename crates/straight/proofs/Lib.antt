@@ -1,0 +1,2 @@
+pub mod Flows
+pub mod Stays
