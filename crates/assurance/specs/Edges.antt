@@ -3,8 +3,9 @@ use Prim.Native.Nat.{ℕ, _^_}
 use mathlib.Core.Path.{_≡_}
 use mathlib.Core.List.{List, [], _∷_}
 use lib.IntN.{ℤ, pos, negℤ}
+use lib.ListN.{replicate}
 use Rattle.runtime.specs.Profile.{safeProfile}
-use Rattle.runtime.specs.declared.CoreTrap.the-variants.{TypeMismatch, DivisionByZero, IntegerOverflow}
+use Rattle.runtime.specs.declared.CoreTrap.the-variants.{InvalidPc, TypeMismatch, DivisionByZero, IntegerOverflow, FuelExceeded, CallDepthExceeded}
 use Rattle.value.specs.Checked.{payload}
 use Rattle.value.specs.Value.{boolKind, i32Kind, fxKind, register}
 use Rattle.instr.specs.declared.Instr.{Instr}
@@ -16,6 +17,12 @@ use Rattle.admission.specs.declared.CoreValidation.the-variants.{Admitted, Inva
 use Rattle.operate.specs.declared.Outcome.{Outcome}
 use Rattle.operate.specs.declared.Outcome.the-variants.{Value, Trap}
 use Rattle.operate.specs.Operate.{operated}
+use Rattle.exec.specs.declared.Ending.{Ending}
+use Rattle.exec.specs.declared.Ending.the-variants.{Trapped}
+use Rattle.exec.specs.Price.{unit}
+use Rattle.exec.specs.Config.{defaultConfig}
+use Rattle.exec.specs.Execute.{entered}
+use Rattle.exec.specs.Execute as executing
 
 -- ---- registers, by what they hold
 abbrev pub boolFalse : ℕ
@@ -56,6 +63,10 @@ Ret src = record { op = 55; small = 0; a = src; b = 0; c = 0; w = 0 }
 abbrev pub CallItself : ℕ → ℕ → Instr
 CallItself dst base = record { op = 54; small = 0; a = dst; b = 0; c = base; w = 0 }
 
+-- a Call of any function, without arguments and into register 0
+abbrev pub CallOf : ℕ → Instr
+CallOf function = record { op = 54; small = 0; a = 0; b = function; c = 0; w = 0 }
+
 -- a program of one function
 abbrev pub alone : ℕ → List Instr → Program
 alone regs code = record { entry = 0; functions = record { name = 0; regs = regs; code = code } ∷ [] }
@@ -76,12 +87,28 @@ pub data Edge : Type 0 where
   admission : Program → CoreValidation → Edge
   -- so have these bytes
   image : List ℕ → CoreValidation → Edge
+  -- a program under this depth limit and with this fuel ends so, having used this much
+  running : Program → ℕ → ℕ → Ending → ℕ → Edge
+  -- these bytes under the default configuration are answered with these numbers
+  execution : List ℕ → List ℕ → Edge
+
+-- room for one frame of up to eight registers, with other words in it
+abbrev pub frameRoom : List ℕ
+frameRoom = replicate 4 77
+
+abbrev pub registerRoom : List ℕ
+registerRoom = replicate 8 77
 
 -- what a row says
 unfoldable pub Holds : Edge → Type 0
 Holds (operation op lhs rhs answer) = operated op (record { op = op; small = 0; a = 0; b = 0; c = 1; w = 0 }) (lhs ∷ rhs ∷ []) ≡ answer
 Holds (admission p answer) = programFault safeProfile p ≡ verdictNumbers answer
 Holds (image bytes answer) = verdict form1 bytes safeProfile ≡ verdictNumbers answer
+Holds (running p most fuel what used) =
+    let end = entered p unit most fuel frameRoom registerRoom in
+    (end .what ≡ what) × (end .used ≡ used)
+Holds (execution bytes answer) =
+    executing.execution form1 unit bytes (defaultConfig .«max_call_depth») (defaultConfig .fuel) frameRoom registerRoom .answer ≡ answer
 
 unfoldable pub edges : List Edge
 edges =
@@ -98,6 +125,10 @@ edges =
     ∷ Edge.admission (alone 1 (CallItself 0 1 ∷ Ret 0 ∷ [])) Admitted
     ∷ Edge.admission (alone 1 (CallItself 0 2 ∷ Ret 0 ∷ [])) (InvalidArgWindow 0 2 0)
     ∷ Edge.image documentImage Admitted
+    ∷ Edge.running (alone 1 []) 64 0 (Trapped InvalidPc) 0
+    ∷ Edge.running (alone 1 (Nop ∷ [])) 64 0 (Trapped FuelExceeded) 0
+    ∷ Edge.running (alone 1 (CallOf 9 ∷ [])) 0 5 (Trapped CallDepthExceeded) 1
+    ∷ Edge.execution documentImage (0 ∷ 0 ∷ 3 ∷ 4294967295 ∷ 2 ∷ [])
     ∷ []
 
 -- every row of a list

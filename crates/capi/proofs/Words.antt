@@ -1,35 +1,30 @@
--- The five words of an answer. Assumes nothing.
+-- What crosses the boundary, by the answer's number and values. Assumes nothing.
 use Prim.Native.Nat.{ℕ}
-use mathlib.Core.Path.{_≡_, refl}
+use mathlib.Core.Path.{_≡_, refl, ap, _∙_}
 use mathlib.Core.List.{List, [], _∷_}
+use Rattle.image.specs.Image.{faultNumbers}
+use Rattle.image.specs.declared.ImageFault.{ImageFault}
 use Rattle.image.specs.declared.ImageFault.the-variants.{Short, Form, Layout, FunctionTable, Instruction}
-use Rattle.admission.specs.Verdict.{verdictNumbers}
-use Rattle.admission.specs.declared.CoreValidation.{CoreValidation}
-use Rattle.admission.specs.declared.CoreValidation.the-variants.{Admitted, Image, ZeroLimit, UnboundedLimit, EmptyProgram, InvalidEntry, TooManyFunctions, TooManyRegisters, TooManyInstructions, InvalidRegister, InvalidJump, InvalidCall, MissingReturn, InvalidArgWindow}
-use Rattle.capi.specs.Boundary.{wordsOf, refusalOf}
-use Rattle.capi.specs.declared.Refusal.{Refusal}
+use Rattle.exec.specs.Execute.{Executed, executed}
+use Rattle.capi.specs.Boundary.{numberOf, wordsOf, answerOf, withDigest, Crossing, crossing, crossed}
+use Rattle.capi.specs.declared.Answer.{Answer}
 
--- the words of a refusal with at most three values
-abbrev pub five : Refusal → List ℕ
-five r = r .first ∷ r .second ∷ r .third ∷ 0 ∷ 0 ∷ []
+abbrev pub five : Answer → List ℕ
+five r = r .first ∷ r .second ∷ r .third ∷ r .fourth ∷ r .fifth ∷ []
 
-pub verdict-words : (v : CoreValidation) → five (refusalOf (verdictNumbers v)) ≡ wordsOf (verdictNumbers v)
+pub five-words : (ns : List ℕ) → five (answerOf ns) ≡ wordsOf ns
 unfolding wordsOf
-verdict-words Admitted = refl
-verdict-words (Image Short) = refl
-verdict-words (Image Form) = refl
-verdict-words (Image Layout) = refl
-verdict-words (Image (FunctionTable k)) = refl
-verdict-words (Image (Instruction k)) = refl
-verdict-words (ZeroLimit f) = refl
-verdict-words (UnboundedLimit f) = refl
-verdict-words EmptyProgram = refl
-verdict-words (InvalidEntry e) = refl
-verdict-words (TooManyFunctions n m) = refl
-verdict-words (TooManyRegisters k r m) = refl
-verdict-words (TooManyInstructions k n m) = refl
-verdict-words (InvalidRegister k r) = refl
-verdict-words (InvalidJump k t) = refl
-verdict-words (InvalidCall k t) = refl
-verdict-words (MissingReturn k) = refl
-verdict-words (InvalidArgWindow k b n) = refl
+five-words ns = refl
+
+-- a fault has no digest
+pub fault-alone : (f : ImageFault) → faultNumbers f ≡ withDigest (faultNumbers f)
+unfolding withDigest
+fault-alone Short = refl
+fault-alone Form = refl
+fault-alone Layout = refl
+fault-alone (FunctionTable k) = refl
+fault-alone (Instruction k) = refl
+
+pub crosses : (r : Answer) (ns fr rg : List ℕ) (e : Executed) → r ≡ answerOf (withDigest ns) → executed ns fr rg ≡ e → crossing (r .number) (five r) fr rg ≡ crossed e
+unfolding crossed numberOf wordsOf
+crosses r ns fr rg e q h = ap (λ (a : Answer). crossing (a .number) (five a) fr rg) q ∙ ap crossed h

@@ -1,9 +1,13 @@
 -- An answer over the C boundary: its number, 0 where nothing is wrong, and five words, which are its values and then zeros.
 use Prim.Native.Nat.{ℕ}
 use mathlib.Core.Path.{_≡_}
-use mathlib.Core.List.{List, [], _∷_}
+use mathlib.Core.List.{List, [], _∷_, _++_}
+use lib.Dec.{eqb}
 use lib.ListN.{getD}
-use Rattle.capi.specs.declared.Refusal.{Refusal}
+use Rattle.basis.specs.Choice.{pick}
+use Rattle.value.specs.Digest.{digested}
+use Rattle.exec.specs.Execute.{Executed}
+use Rattle.capi.specs.declared.Answer.{Answer}
 
 unfoldable pub numberOf : List ℕ → ℕ
 numberOf answer = getD answer 0 0
@@ -15,6 +19,34 @@ wordsOf answer = getD answer 1 0 ∷ getD answer 2 0 ∷ getD answer 3 0 ∷ get
 abbrev pub Answered : List ℕ → ℕ → List ℕ → Type 0
 Answered answer number words = (number ≡ numberOf answer) × (words ≡ wordsOf answer)
 
--- no answer has more than three values
-abbrev pub refusalOf : List ℕ → Refusal
-refusalOf answer = record { number = getD answer 0 0; first = getD answer 1 0; second = getD answer 2 0; third = getD answer 3 0 }
+-- number and words together; no answer has more than five values
+abbrev pub answerOf : List ℕ → Answer
+answerOf answer =
+    record {
+      number = getD answer 0 0;
+      first = getD answer 1 0;
+      second = getD answer 2 0;
+      third = getD answer 3 0;
+      fourth = getD answer 4 0;
+      fifth = getD answer 5 0;
+    }
+
+-- ---- an execution
+-- a result carries its digest after its four values; a refusal has none
+unfoldable pub withDigest : List ℕ → List ℕ
+withDigest answer =
+    let digest = digested (getD answer 1 0) (getD answer 2 0) (getD answer 3 0) (getD answer 4 0) in
+    pick (eqb (getD answer 0 0) 0) (answer ++ (digest ∷ [])) answer
+
+-- the number returned, the answer's words, and the lent words then
+pub record Crossing : Type 0 where
+  pub number : ℕ
+  pub words : List ℕ
+  pub frames : List ℕ
+  pub regs : List ℕ
+
+abbrev pub crossing : ℕ → List ℕ → List ℕ → List ℕ → Crossing
+crossing number words frames regs = record { number = number; words = words; frames = frames; regs = regs }
+
+unfoldable pub crossed : Executed → Crossing
+crossed e = let answer = withDigest (e .answer) in crossing (numberOf answer) (wordsOf answer) (e .frames) (e .regs)

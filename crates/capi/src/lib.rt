@@ -2,35 +2,64 @@
 // one proved function and writes the answer's words.
 use admission::CoreValidation;
 use admission::validate_program;
+use exec::CoreOutcome;
+use exec::config::CoreConfig;
+use exec::config::CoreEnginePolicy;
+use exec::execute_outcome;
 use image::ImageFault;
 use runtime::CoreAdmissionProfile;
+use value::digest::digest_words;
+use value::result::CoreResult;
 ghost use mathlib.Core.Path.{_≡_};
+ghost use mathlib.Core.List.{[], _∷_};
+ghost use Rattle.value.specs.Digest.{digested};
 ghost use Rattle.image.specs.Image.{faultNumbers};
 ghost use Rattle.image.specs.Records.{form1};
 ghost use Rattle.admission.specs.Verdict.{verdictNumbers, verdict};
-ghost use Rattle.capi.specs.Boundary.{Answered, refusalOf};
+ghost use Rattle.exec.specs.declared.CoreOutcome.the-variants.{Done};
+ghost use Rattle.exec.specs.Price.{unit};
+ghost use Rattle.exec.specs.Execute.{outcomeNumbers, execution};
+ghost use Rattle.capi.specs.Boundary.{Answered, answerOf, withDigest, crossing, crossed};
 
-// A refusal's number and its values, zeros where there are none.
-pub struct Refusal {
+// An answer's number and its five values, zeros after those that it has.
+pub struct Answer {
     pub number: u64,
     pub first: u64,
     pub second: u64,
     pub third: u64,
+    pub fourth: u64,
+    pub fifth: u64,
 }
 
-fn refuse(number: u64, first: usize, second: usize, third: usize) -> Refusal
-    ensures { λ r. ⌜ r ≡ record { number = number; first = first; second = second; third = third } ⌝ }
+fn refuse(number: u64, first: usize, second: usize, third: usize) -> Answer
+    ensures { λ r. ⌜ r ≡ record { number = number; first = first; second = second; third = third; fourth = 0; fifth = 0 } ⌝ }
 {
-    Refusal {
+    Answer {
         number,
         first: first as u64,
         second: second as u64,
         third: third as u64,
+        fourth: 0,
+        fifth: 0,
     }
 }
 
-fn of_fault(fault: ImageFault) -> Refusal
-    ensures { λ r. ⌜ r ≡ refusalOf (faultNumbers fault) ⌝ }
+// A refusal for room answers with the fuel used.
+fn refuse_room(number: u64, used: u64) -> Answer
+    ensures { λ r. ⌜ r ≡ answerOf (number ∷ used ∷ []) ⌝ }
+{
+    Answer {
+        number,
+        first: used,
+        second: 0,
+        third: 0,
+        fourth: 0,
+        fifth: 0,
+    }
+}
+
+fn of_fault(fault: ImageFault) -> Answer
+    ensures { λ r. ⌜ r ≡ answerOf (faultNumbers fault) ⌝ }
 {
     match fault {
         ImageFault::Short => refuse(1, 0, 0, 0),
@@ -41,8 +70,8 @@ fn of_fault(fault: ImageFault) -> Refusal
     }
 }
 
-fn of_verdict(v: CoreValidation) -> Refusal
-    ensures { λ r. ⌜ r ≡ refusalOf (verdictNumbers v) ⌝ }
+fn of_verdict(v: CoreValidation) -> Answer
+    ensures { λ r. ⌜ r ≡ answerOf (verdictNumbers v) ⌝ }
 {
     match v {
         CoreValidation::Admitted => refuse(0, 0, 0, 0),
@@ -59,6 +88,37 @@ fn of_verdict(v: CoreValidation) -> Refusal
         CoreValidation::InvalidCall(k, target) => refuse(18, k, target, 0),
         CoreValidation::MissingReturn(k) => refuse(19, k, 0, 0),
         CoreValidation::InvalidArgWindow(k, base, count) => refuse(20, k, base, count),
+    }
+}
+
+// Status, kind, payload, fuel used and digest.
+fn of_result(result: CoreResult) -> Answer
+    ensures { λ r. ⌜ r ≡ answerOf (withDigest (outcomeNumbers (Done result))) ⌝ }
+{
+    let status = result.status;
+    let value = result.return_value;
+    let used = result.fuel_used;
+    let first = status.number();
+    let second = value.kind() as u64;
+    let third = value.payload() as u64;
+    Answer {
+        number: 0,
+        first,
+        second,
+        third,
+        fourth: used,
+        fifth: digest_words(first, second, third, used),
+    }
+}
+
+fn of_outcome(o: CoreOutcome) -> Answer
+    ensures { λ r. ⌜ r ≡ answerOf (withDigest (outcomeNumbers o)) ⌝ }
+{
+    match o {
+        CoreOutcome::Done(result) => of_result(result),
+        CoreOutcome::Image(fault) => of_fault(fault),
+        CoreOutcome::FrameRoom(used) => refuse_room(6, used),
+        CoreOutcome::RegisterRoom(used) => refuse_room(7, used),
     }
 }
 
@@ -82,6 +142,36 @@ pub extern "C" fn knit_validate(
         max_fuel,
     };
     let r = of_verdict(validate_program(image, profile));
-    *answer = [r.first, r.second, r.third, 0, 0];
+    *answer = [r.first, r.second, r.third, r.fourth, r.fifth];
     r.number
+}
+
+#[no_mangle]
+pub extern "C" fn knit_execute(
+    image: &[u8],
+    fuel: u64,
+    max_call_depth: u16,
+    frames: &mut [u64],
+    registers: &mut [u64],
+    answer: &mut [u64; 5],
+) -> u64
+    ensures { λ r. ⌜ crossing r (now (answer .exit)) (now (frames .exit)) (now (registers .exit)) ≡ crossed (execution form1 unit (now (image .entry)) «max_call_depth» fuel (now (frames .entry)) (now (registers .entry))) ⌝ }
+{
+    let config = CoreConfig {
+        fuel,
+        max_call_depth,
+        engine_policy: CoreEnginePolicy::Auto,
+        validate_before_execute: true,
+        profile: CoreAdmissionProfile::safe(),
+    };
+    let r = of_outcome(execute_outcome(image, config, frames, registers));
+    *answer = [r.first, r.second, r.third, r.fourth, r.fifth];
+    r.number
+}
+
+#[no_mangle]
+pub extern "C" fn knit_digest(status: u64, kind: u64, payload: u64, fuel_used: u64) -> u64
+    ensures { λ r. ⌜ r ≡ digested status kind payload «fuel_used» ⌝ }
+{
+    digest_words(status, kind, payload, fuel_used)
 }

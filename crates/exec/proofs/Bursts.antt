@@ -51,8 +51,8 @@ module _ (p : Program) (price : Price) (fair : Fair price) (f fuel from : ℕ) (
   pub stop-past : lengthOf p f ≤ place → halted Past place left w ≡ burst p price f fuel fuel from w₀
   stop-past h = sym (b .same ∙ burst-past p price f place w (b .bound) left h)
 
-  pub stop-dry : (i : Instr) (m : ℕ) → i ≡ codeOf p f place → place < lengthOf p f → left < price (i .op) → m ≡ 0 → halted Dry place m w ≡ burst p price f fuel fuel from w₀
-  stop-dry i m e h n z = rw z (sym (b .same ∙ burst-dry p price f place w (b .bound) left h (rw e at n)))
+  pub stop-dry : (i : Instr) (c : ℕ) → i ≡ codeOf p f place → place < lengthOf p f → c ≡ price (i .op) → left < c → halted Dry place 0 w ≡ burst p price f fuel fuel from w₀
+  stop-dry i c e h k n = sym (b .same ∙ burst-dry p price f place w (b .bound) left h (rw (k, e) at n))
 
   module _ (i : Instr) (m : ℕ) (h : Paid p price f place left i m) where
     more : b .bound ≡ suc (b .bound - 1)

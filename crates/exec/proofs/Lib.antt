@@ -12,3 +12,5 @@ pub mod Leaving
 pub mod Standing
 pub mod Entry
 pub mod Whole
+pub mod Counts
+pub mod Unique

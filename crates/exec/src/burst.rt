@@ -1,5 +1,6 @@
 // The inner loop: the running frame goes on by itself, with its place and the fuel in locals and its registers as a part of the lent
-// words. Everything that a step of every opcode shares stands here once: the test of the place, the charge, the instruction.
+// words. Everything that a step of every opcode shares stands here once: the test of the place, the instruction, the charge. The
+// charge is the meter's rule on a plain number: through the meter the compiler makes five instructions of what here are two.
 use crate::frame;
 use image::record::FUNCTION_SIZE;
 use image::record::HEADER_SIZE;
@@ -7,9 +8,7 @@ use image::record::INSTR_SIZE;
 use image::record::function_count;
 use image::record::instr_at;
 use instr::Instr;
-use runtime::Charge;
 use runtime::CoreTrap;
-use runtime::FuelMeter;
 use straight::Went;
 use straight::straight;
 ghost use mathlib.Core.Path.{_≡_};
@@ -80,19 +79,15 @@ fn burst(image: &[u8], function: usize, win: &mut [u64], from: usize, fuel: u64)
             };
         }
         let i = instr_of(image, code, place);
-        let paid = FuelMeter::new(left).charge(price(i.op));
-        let answer = paid.answer;
-        match answer {
-            Charge::FuelExceeded => {
-                return Halt {
-                    why: Why::Dry,
-                    place,
-                    left: paid.meter.remaining,
-                };
-            }
-            Charge::Paid => {}
+        let cost = price(i.op);
+        if left < cost {
+            return Halt {
+                why: Why::Dry,
+                place,
+                left: 0,
+            };
         }
-        left = paid.meter.remaining;
+        left -= cost;
         match straight(i, win) {
             Went::On => {
                 place += 1;

@@ -60,7 +60,15 @@ fn push_record(frames: &mut [u64], d: usize, t: Top, i: Instr)
     frame::begin_record(frames, d, i.b, i.a, t.first + t.limit);
 }
 
-fn call(image: &[u8], frames: &mut [u64], registers: &mut [u64], d: usize, most: usize, t: Top, i: Instr) -> Step
+fn call(
+    image: &[u8],
+    frames: &mut [u64],
+    registers: &mut [u64],
+    d: usize,
+    most: usize,
+    t: Top,
+    i: Instr,
+) -> Step
     requires { ⌜ WellFormed form1 (now image) ⌝ }
     requires { ⌜ (1 ≤ d) × (4 * d ≤ length (now frames)) × (t .first + t .limit ≤ length (now registers)) × (t .place < 2 ^ 63) ⌝ }
     requires { ⌜ i .c < 2 ^ 16 ⌝ }

@@ -175,7 +175,12 @@ fn outcome_of(what: Ending, used: u64) -> CoreOutcome
     }
 }
 
-pub fn execute_outcome(image: &[u8], config: CoreConfig, frames: &mut [u64], registers: &mut [u64]) -> CoreOutcome
+pub fn execute_outcome(
+    image: &[u8],
+    config: CoreConfig,
+    frames: &mut [u64],
+    registers: &mut [u64],
+) -> CoreOutcome
     ensures { λ r. ⌜ executed (outcomeNumbers r) (now (frames .exit)) (now (registers .exit)) ≡ execution form1 unit (now (image .entry)) (config .«max_call_depth») (config .fuel) (now (frames .entry)) (now (registers .entry)) ⌝ }
 {
     let fuel = config.fuel;
@@ -269,7 +274,13 @@ fn one_step(image: &[u8], frames: &mut [u64], registers: &mut [u64], d: usize, m
 }
 
 // One step of the last of `depth` frames, of any bytes and any lent words: for whoever wants to see a run from the inside.
-pub fn step_once(image: &[u8], max_call_depth: u16, frames: &mut [u64], registers: &mut [u64], depth: usize) -> StepFound
+pub fn step_once(
+    image: &[u8],
+    max_call_depth: u16,
+    frames: &mut [u64],
+    registers: &mut [u64],
+    depth: usize,
+) -> StepFound
     ensures { λ r. ⌜ found r (now (frames .exit)) (now (registers .exit)) ≡ stepFound form1 (now (image .entry)) «max_call_depth» (state (now (frames .entry)) (now (registers .entry)) depth) ⌝ }
 {
     match check_image(image) {
@@ -303,7 +314,12 @@ impl CoreExecutor {
         self.config
     }
 
-    pub fn execute_outcome(self, image: &[u8], frames: &mut [u64], registers: &mut [u64]) -> CoreOutcome
+    pub fn execute_outcome(
+        self,
+        image: &[u8],
+        frames: &mut [u64],
+        registers: &mut [u64],
+    ) -> CoreOutcome
         ensures { λ r. ⌜ executed (outcomeNumbers r) (now (frames .exit)) (now (registers .exit)) ≡ execution form1 unit (now (image .entry)) (self .config .«max_call_depth») (self .config .fuel) (now (frames .entry)) (now (registers .entry)) ⌝ }
     {
         let config = self.config;

@@ -34,14 +34,23 @@ pub function-in-slice : (s : List ℕ) (at : ℕ) → functionAt (slice s at (at
 unfolding functionAt
 function-in-slice s at =
     rw (
-      word-in s at 16 0 (omega arith), half-in s at 16 4 (omega arith), half-in s at 16 6 (omega arith),
-      word-in s at 16 8 (omega arith), word-in s at 16 12 (omega arith), add-zero at,
+      word-in s at 16 0 (omega arith),
+      half-in s at 16 4 (omega arith),
+      half-in s at 16 6 (omega arith),
+      word-in s at 16 8 (omega arith),
+      word-in s at 16 12 (omega arith),
+      add-zero at,
     )
 
 pub instr-in-slice : (s : List ℕ) (at : ℕ) → form1Instr (slice s at (at + 12)) 0 ≡ form1Instr s at
 unfolding form1Instr
 instr-in-slice s at =
     rw (
-      byte-in s at 12 0 (omega arith), byte-in s at 12 1 (omega arith), half-in s at 12 2 (omega arith), half-in s at 12 4 (omega arith),
-      half-in s at 12 6 (omega arith), word-in s at 12 8 (omega arith), add-zero at,
+      byte-in s at 12 0 (omega arith),
+      byte-in s at 12 1 (omega arith),
+      half-in s at 12 2 (omega arith),
+      half-in s at 12 4 (omega arith),
+      half-in s at 12 6 (omega arith),
+      word-in s at 12 8 (omega arith),
+      add-zero at,
     )

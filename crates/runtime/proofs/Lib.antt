@@ -1,3 +1,2 @@
 pub mod Usable
 pub mod Unique
-pub mod Charges

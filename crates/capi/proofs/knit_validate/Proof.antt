@@ -1,7 +1,7 @@
 use mathlib.Core.Path.{_∙_, ap}
 use Rattle.capi.specs.Boundary.{numberOf}
-use Rattle.capi.specs.declared.Refusal.{Refusal}
-use Rattle.capi.proofs.Words.{five, verdict-words}
+use Rattle.capi.specs.declared.Answer.{Answer}
+use Rattle.capi.proofs.Words.{five, five-words}
 use borrow.Author.Needs.{needs}
 use Rattle.capi.proofs.knit_validate.Statement.{statement}
 use Rattle.capi.proofs.knit_validate.Tie as tie
@@ -16,8 +16,8 @@ returns : tie.Need-returns
 unfolding numberOf
 returns c = let r = c .before .of-verdict .ensures in
     let v = c .before .before .validate-program .ensures in (
-      rw (← v) (ap (λ (x : Refusal). x .number) r),
-      rw (← v) (ap five r ∙ verdict-words (c .before .before .validate-program .result)),
+      rw (← v) (ap (λ (x : Answer). x .number) r),
+      rw (← v) (ap five r ∙ five-words _),
     )
 
 pub knit-validate-spec : {M : Type 1} → statement M

@@ -1,0 +1,61 @@
+use mathlib.Core.Path.{ap, _∙_}
+use Rattle.capi.specs.Boundary.{answerOf, withDigest}
+use Rattle.capi.proofs.Words.{fault-alone}
+use borrow.Author.Needs.{needs}
+use Rattle.capi.proofs.of_outcome.Statement.{statement}
+use Rattle.capi.proofs.of_outcome.Tie as tie
+
+enum-known-o : tie.Need-enum-known-o
+enum-known-o c = search needs
+
+of-result-requires : tie.Need-of-result-requires
+of-result-requires c κs = search needs
+
+enum-known-o-2 : tie.Need-enum-known-o-2
+enum-known-o-2 c = search needs
+
+of-fault-requires : tie.Need-of-fault-requires
+of-fault-requires c κs = search needs
+
+enum-known-o-3 : tie.Need-enum-known-o-3
+enum-known-o-3 c = search needs
+
+refuse-room-requires : tie.Need-refuse-room-requires
+refuse-room-requires c κs = search needs
+
+enum-known-o-4 : tie.Need-enum-known-o-4
+enum-known-o-4 c = search needs
+
+refuse-room-requires-2 : tie.Need-refuse-room-requires-2
+refuse-room-requires-2 c κs = search needs
+
+returns : tie.Need-returns
+returns c = rw (c .before .before .o .given .1) (c .of-result .ensures)
+
+returns-2 : tie.Need-returns-2
+returns-2 c = rw (c .before .before .o2 .given .1) (c .of-fault .ensures ∙ ap answerOf (fault-alone (c .before .before .o2 .given .0 .0)))
+
+returns-3 : tie.Need-returns-3
+unfolding withDigest
+returns-3 c = rw (c .before .before .o3 .given .1) (c .refuse-room .ensures)
+
+returns-4 : tie.Need-returns-4
+unfolding withDigest
+returns-4 c = rw (c .before .before .o4 .given .1) (c .refuse-room2 .ensures)
+
+pub of-outcome-spec : {M : Type 1} → statement M
+of-outcome-spec =
+    tie.close
+    (tie.spec
+    enum-known-o
+    of-result-requires
+    enum-known-o-2
+    of-fault-requires
+    enum-known-o-3
+    refuse-room-requires
+    enum-known-o-4
+    refuse-room-requires-2
+    returns
+    returns-2
+    returns-3
+    returns-4)

@@ -1,0 +1,156 @@
+-- Just one answer, and one content of the lent words, meets the promise of each public function. Assumes nothing.
+use Prim.Native.Nat.{ℕ, _+_, _-_}
+use mathlib.Core.Path.{_≡_, refl, sym, ap, _∙_}
+use mathlib.Core.Bool.{Bool}
+use mathlib.Core.List.{List}
+use native.Mathlib.Omega.{arith}
+use lib.Dec.{eqb}
+use lib.ListN.{length, getD}
+use Rattle.basis.specs.Choice.{pick}
+use Rattle.runtime.specs.declared.CoreTrap.{CoreTrap}
+use Rattle.runtime.specs.declared.CoreTrap.the-variants.{InvalidPc, InvalidRegister, TypeMismatch, DivisionByZero, IntegerOverflow, FuelExceeded, CallDepthExceeded, InvalidFunction, AssertFailed, ExplicitTrap}
+use Rattle.runtime.specs.Trap.{trapCode}
+use Rattle.value.specs.declared.result.CoreStatus.{CoreStatus}
+use Rattle.value.specs.declared.result.CoreStatus.the-variants.{Returned, Trapped}
+use Rattle.value.specs.declared.result.CoreResult.{CoreResult}
+use Rattle.value.specs.Value.{register, valueAt, wordOf, Held}
+use Rattle.value.specs.Result.{statusWord}
+use Rattle.value.proofs.Words as words
+use Rattle.image.specs.declared.ImageFault.the-variants.{Short, Form, Layout, FunctionTable, Instruction}
+use Rattle.image.proofs.Unique.{faultOf}
+use Rattle.exec.specs.declared.StepFound.{StepFound}
+use Rattle.exec.specs.declared.CoreOutcome.{CoreOutcome}
+use Rattle.exec.specs.declared.CoreOutcome.the-variants.{Done, Image, FrameRoom, RegisterRoom}
+use Rattle.exec.specs.declared.CoreExecution.{CoreExecution}
+use Rattle.exec.specs.declared.CoreExecution.the-variants as settling
+use Rattle.exec.specs.Step.{Found, found}
+use Rattle.exec.specs.Execute.{resultNumbers, outcomeNumbers, valueIn, Executed, executed, executionNumbers}
+
+-- ---- the way back from numbers
+trapAt : ℕ → CoreTrap
+trapAt n =
+    let is : ℕ → Bool = λ k. eqb n k in
+    pick (is 0) InvalidPc
+    (pick (is 1) InvalidRegister
+    (pick (is 2) TypeMismatch
+    (pick (is 3) DivisionByZero
+    (pick (is 4) IntegerOverflow
+    (pick (is 5) FuelExceeded
+    (pick (is 6) CallDepthExceeded
+    (pick (is 7) InvalidFunction
+    (pick (is 8) AssertFailed ExplicitTrap))))))))
+
+trap-back : (t : CoreTrap) → trapAt (trapCode t) ≡ t
+unfolding trapAt
+trap-back InvalidPc = refl
+trap-back InvalidRegister = refl
+trap-back TypeMismatch = refl
+trap-back DivisionByZero = refl
+trap-back IntegerOverflow = refl
+trap-back FuelExceeded = refl
+trap-back CallDepthExceeded = refl
+trap-back InvalidFunction = refl
+trap-back AssertFailed = refl
+trap-back ExplicitTrap = refl
+
+statusAt : ℕ → CoreStatus
+statusAt n = pick (eqb n 0) Returned (Trapped (trapAt (n - 1)))
+
+status-back : (s : CoreStatus) → statusAt (statusWord s) ≡ s
+unfolding statusAt trapAt
+status-back Returned = refl
+status-back (Trapped InvalidPc) = refl
+status-back (Trapped InvalidRegister) = refl
+status-back (Trapped TypeMismatch) = refl
+status-back (Trapped DivisionByZero) = refl
+status-back (Trapped IntegerOverflow) = refl
+status-back (Trapped FuelExceeded) = refl
+status-back (Trapped CallDepthExceeded) = refl
+status-back (Trapped InvalidFunction) = refl
+status-back (Trapped AssertFailed) = refl
+status-back (Trapped ExplicitTrap) = refl
+
+-- a result by its status, kind, payload and fuel, which stand after an answer's number
+resultAt : List ℕ → CoreResult
+resultAt ns =
+    record {
+      status = statusAt (getD ns 1 0);
+      «return_value» = valueIn (valueAt (register (getD ns 2 0) (getD ns 3 0)));
+      «fuel_used» = getD ns 4 0;
+    }
+
+-- the values of a result are those that the engine's types hold
+abbrev pub HeldResult : CoreResult → Type 0
+HeldResult r = Held (r .«return_value»)
+
+abbrev pub HeldOutcome : CoreOutcome → Type 0
+HeldOutcome (Done r) = HeldResult r
+HeldOutcome (Image fault) = Unit {0}
+HeldOutcome (FrameRoom used) = Unit {0}
+HeldOutcome (RegisterRoom used) = Unit {0}
+
+outcomeAt : List ℕ → CoreOutcome
+outcomeAt ns =
+    let is : ℕ → Bool = λ k. eqb (getD ns 0 0) k in
+    pick (is 0) (Done (resultAt ns)) (pick (is 6) (FrameRoom (getD ns 1 0)) (pick (is 7) (RegisterRoom (getD ns 1 0)) (Image (faultOf ns))))
+
+value-back : (r : CoreResult) → HeldResult r → valueIn (valueAt (wordOf (r .«return_value»))) ≡ r .«return_value»
+unfolding valueIn
+value-back r h = rw (words.found (r .«return_value») h)
+
+outcome-back : (o : CoreOutcome) → HeldOutcome o → outcomeAt (outcomeNumbers o) ≡ o
+unfolding outcomeAt resultAt faultOf wordOf
+outcome-back (Done r) h = rw (status-back (r .status), value-back r h)
+outcome-back (Image Short) h = refl
+outcome-back (Image Form) h = refl
+outcome-back (Image Layout) h = refl
+outcome-back (Image (FunctionTable k)) h = refl
+outcome-back (Image (Instruction k)) h = refl
+outcome-back (FrameRoom used) h = refl
+outcome-back (RegisterRoom used) h = refl
+
+pub outcome-unique : (a b : CoreOutcome) → HeldOutcome a → HeldOutcome b → outcomeNumbers a ≡ outcomeNumbers b → a ≡ b
+outcome-unique a b h k e = sym (outcome-back a h) ∙ ap outcomeAt e ∙ outcome-back b k
+
+-- ---- one for each function
+pub one-step : (f : Found) (a b : StepFound) (fr rg fr′ rg′ : List ℕ) → found a fr rg ≡ f → found b fr′ rg′ ≡ f → (a ≡ b) × (fr ≡ fr′) × (rg ≡ rg′)
+one-step f a b fr rg fr′ rg′ p q = let e = p ∙ sym q in (ap (λ (x : Found). x .answer) e, ap (λ (x : Found). x .frames) e, ap (λ (x : Found). x .regs) e)
+
+pub one-outcome : (x : Executed) (a b : CoreOutcome) (fr rg fr′ rg′ : List ℕ) → HeldOutcome a → HeldOutcome b
+    → executed (outcomeNumbers a) fr rg ≡ x → executed (outcomeNumbers b) fr′ rg′ ≡ x → (a ≡ b) × (fr ≡ fr′) × (rg ≡ rg′)
+one-outcome x a b fr rg fr′ rg′ h k p q =
+    let e = p ∙ sym q in
+    (outcome-unique a b h k (ap (λ (y : Executed). y .answer) e), ap (λ (y : Executed). y .frames) e, ap (λ (y : Executed). y .regs) e)
+
+-- `execute` the same; a trap has two numbers, a result five
+executionAt : List ℕ → CoreExecution
+executionAt ns =
+    let is : ℕ → Bool = λ k. eqb (getD ns 0 0) k in
+    pick (is 0) (pick (eqb (length ns) 2) (settling.Trap (trapAt (getD ns 1 0 - 1))) (settling.Done (resultAt ns)))
+    (pick (is 6) (settling.FrameRoom (getD ns 1 0)) (pick (is 7) (settling.RegisterRoom (getD ns 1 0)) (settling.Image (faultOf ns))))
+
+abbrev pub HeldExecution : CoreExecution → Type 0
+HeldExecution (settling.Done r) = HeldResult r
+HeldExecution (settling.Trap t) = Unit {0}
+HeldExecution (settling.Image fault) = Unit {0}
+HeldExecution (settling.FrameRoom used) = Unit {0}
+HeldExecution (settling.RegisterRoom used) = Unit {0}
+
+execution-back : (o : CoreExecution) → HeldExecution o → executionAt (executionNumbers o) ≡ o
+unfolding executionAt resultAt faultOf wordOf
+execution-back (settling.Done r) h = rw (status-back (r .status), value-back r h)
+execution-back (settling.Trap t) h = let e : 1 + trapCode t - 1 ≡ trapCode t = omega arith in rw e (ap settling.Trap (trap-back t))
+execution-back (settling.Image Short) h = refl
+execution-back (settling.Image Form) h = refl
+execution-back (settling.Image Layout) h = refl
+execution-back (settling.Image (FunctionTable k)) h = refl
+execution-back (settling.Image (Instruction k)) h = refl
+execution-back (settling.FrameRoom used) h = refl
+execution-back (settling.RegisterRoom used) h = refl
+
+pub one-execution : (x : Executed) (a b : CoreExecution) (fr rg fr′ rg′ : List ℕ) → HeldExecution a → HeldExecution b
+    → executed (executionNumbers a) fr rg ≡ x → executed (executionNumbers b) fr′ rg′ ≡ x → (a ≡ b) × (fr ≡ fr′) × (rg ≡ rg′)
+one-execution x a b fr rg fr′ rg′ h k p q =
+    let e = p ∙ sym q in
+    let n = ap (λ (y : Executed). y .answer) e in
+    (sym (execution-back a h) ∙ ap executionAt n ∙ execution-back b k, ap (λ (y : Executed). y .frames) e, ap (λ (y : Executed). y .regs) e)
