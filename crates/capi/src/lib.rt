@@ -11,7 +11,6 @@ use runtime::CoreAdmissionProfile;
 use value::digest::digest_words;
 use value::result::CoreResult;
 ghost use mathlib.Core.Path.{_≡_};
-ghost use mathlib.Core.List.{[], _∷_};
 ghost use Rattle.value.specs.Digest.{digested};
 ghost use Rattle.image.specs.Image.{faultNumbers};
 ghost use Rattle.image.specs.Records.{form1};
@@ -39,20 +38,6 @@ fn refuse(number: u64, first: usize, second: usize, third: usize) -> Answer
         first: first as u64,
         second: second as u64,
         third: third as u64,
-        fourth: 0,
-        fifth: 0,
-    }
-}
-
-// A refusal for room answers with the fuel used.
-fn refuse_room(number: u64, used: u64) -> Answer
-    ensures { λ r. ⌜ r ≡ answerOf (number ∷ used ∷ []) ⌝ }
-{
-    Answer {
-        number,
-        first: used,
-        second: 0,
-        third: 0,
         fourth: 0,
         fifth: 0,
     }
@@ -111,14 +96,15 @@ fn of_result(result: CoreResult) -> Answer
     }
 }
 
+// A refusal for room answers with the fuel used.
 fn of_outcome(o: CoreOutcome) -> Answer
     ensures { λ r. ⌜ r ≡ answerOf (withDigest (outcomeNumbers o)) ⌝ }
 {
     match o {
         CoreOutcome::Done(result) => of_result(result),
         CoreOutcome::Image(fault) => of_fault(fault),
-        CoreOutcome::FrameRoom(used) => refuse_room(6, used),
-        CoreOutcome::RegisterRoom(used) => refuse_room(7, used),
+        CoreOutcome::FrameRoom(used) => refuse(6, used as usize, 0, 0),
+        CoreOutcome::RegisterRoom(used) => refuse(7, used as usize, 0, 0),
     }
 }
 

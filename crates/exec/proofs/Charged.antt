@@ -12,8 +12,8 @@ use Rattle.exec.proofs.Bursts.{Paid}
 use Rattle.exec.proofs.Facts.{count-is, instr-is}
 
 module _ (s : List ℕ) (W : WellFormed form1 s) (k : ℕ) (h : k < headerOf s .functions) (f : FunctionRecord) (e : f ≡ functionNo s k)
-         (code : ℕ) (c : code ≡ instrPlace form1 (headerOf s .functions) (f .first)) (place left : ℕ) (inside : place < f .count)
-         (i : Instr) (q : i ≡ form1Instr s (code + 12 * place)) (cost : ℕ) (z : cost ≡ unit (i .op)) where
+    (code : ℕ) (c : code ≡ instrPlace form1 (headerOf s .functions) (f .first)) (place left : ℕ) (inside : place < f .count)
+    (i : Instr) (q : i ≡ form1Instr s (code + 12 * place)) (cost : ℕ) (z : cost ≡ unit (i .op)) where
   pub paid : cost ≤ left → Paid (decode form1 s) unit k place left i (left - cost)
   paid l = record {
     instr = instr-is s W k h f e code place i c inside q;

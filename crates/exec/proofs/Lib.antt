@@ -1,5 +1,6 @@
 pub mod Parts
 pub mod Lists
+pub mod Leaving
 pub mod Runs
 pub mod Bursts
 pub mod Keeps
@@ -8,7 +9,6 @@ pub mod Outer
 pub mod Single
 pub mod Facts
 pub mod Charged
-pub mod Leaving
 pub mod Standing
 pub mod Entry
 pub mod Whole

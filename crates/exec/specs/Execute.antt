@@ -45,7 +45,8 @@ outcomeNumbers (FrameRoom used) = 6 ∷ used ∷ []
 outcomeNumbers (RegisterRoom used) = 7 ∷ used ∷ []
 
 -- ---- how a run ended
--- the value that a register word holds. A word that holds none counts as Unit; no execution hands one back (proofs/Values)
+-- the value that a register word holds. A word that holds none counts as Unit; registers start as Unit, and what is computed from
+-- values is a value again (operate/proofs/Values)
 unfoldable pub valueIn : WordFound → CoreValue
 valueIn (Value v) = v
 valueIn NoValue = Unit

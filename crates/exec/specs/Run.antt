@@ -36,16 +36,22 @@ onward c (Ends e) frames regs rest = final e c frames regs
 abbrev pub costAt : Program → Price → State → ℕ
 costAt p price s = price (nextInstr p s .op)
 
--- a run with `left` units, for at most n instructions. A place at or past the length traps before anything is charged; a charge that
--- does not fit uses up all that is left
+-- a place at or past the length traps, and nothing is charged for it
+abbrev pub pastEnd : State → Final
+pastEnd s = final (Trapped InvalidPc) 0 (s .frames) (s .regs)
+
+-- a charge that does not fit uses up all that is left
+abbrev pub outOfFuel : ℕ → State → Final
+outOfFuel left s = final (Trapped FuelExceeded) left (s .frames) (s .regs)
+
+-- a run with `left` units, for at most n instructions: the place is tested, then the next instruction is charged, then it acts
 unfoldable pub runFor : Program → Price → ℕ → ℕ → ℕ → State → Final
-runFor p price most zero left s =
-    pick (isPast p s) (final (Trapped InvalidPc) 0 (s .frames) (s .regs)) (final (Trapped FuelExceeded) left (s .frames) (s .regs))
+runFor p price most zero left s = pick (isPast p s) (pastEnd s) (outOfFuel left s)
 runFor p price most (suc n) left s =
     let c = costAt p price s in
     let o = step p most s in
-    pick (isPast p s) (final (Trapped InvalidPc) 0 (s .frames) (s .regs))
-    (pick (ltb left c) (final (Trapped FuelExceeded) left (s .frames) (s .regs))
+    pick (isPast p s) (pastEnd s)
+    (pick (ltb left c) (outOfFuel left s)
     (onward c (o .answer) (o .frames) (o .regs) (λ t. runFor p price most n (left - c) t)))
 
 -- an instruction costs at least one unit, so a run has no more instructions than fuel (proofs/Runs: enough)
