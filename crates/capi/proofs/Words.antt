@@ -6,7 +6,7 @@ use Rattle.image.specs.Image.{faultNumbers}
 use Rattle.image.specs.declared.ImageFault.{ImageFault}
 use Rattle.image.specs.declared.ImageFault.the-variants.{Short, Form, Layout, FunctionTable, Instruction}
 use Rattle.exec.specs.Execute.{Executed, executed}
-use Rattle.capi.specs.Boundary.{numberOf, wordsOf, answerOf, withDigest, Crossing, crossing, crossed}
+use Rattle.capi.specs.Boundary.{numberOf, wordsOf, answerOf, withDigest, crossing, crossed}
 use Rattle.capi.specs.declared.Answer.{Answer}
 
 abbrev pub five : Answer → List ℕ

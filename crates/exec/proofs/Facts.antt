@@ -1,12 +1,10 @@
 -- Facts that the proofs of several functions cite: the running frame as it is read, and its instruction. Assumes nothing.
-use Prim.Native.Nat.{ℕ, _+_, _*_, _-_, _≤_, _<_, _^_}
+use Prim.Native.Nat.{ℕ, _+_, _*_, _-_, _≤_, _<_}
 use mathlib.Core.Path.{_≡_, refl, sym, ap, _∙_}
-use mathlib.Core.Bool.{Bool, true, false, _||_, _&&_}
 use mathlib.Core.List.{List, _++_}
 use native.Mathlib.Omega.{arith}
-use lib.Dec.{leb, eqb}
 use lib.ListN.{length, set, take, drop}
-use borrow.Author.Tests.{eqb-true, leb-true, eq-eqb, ne-eqb}
+use borrow.Author.Tests.{eq-eqb, ne-eqb}
 use Rattle.instr.specs.declared.Instr.{Instr}
 use Rattle.image.specs.Records.{headerOf, functionNo, form1, form1Instr, instrPlace}
 use Rattle.image.specs.WellFormed.{WellFormed}
@@ -19,22 +17,10 @@ use Rattle.image.proofs.Numbers.{regs-in, length-in, fetched}
 use Rattle.exec.specs.declared.frame.Top.{Top}
 use Rattle.exec.specs.declared.burst.Why.{Why}
 use Rattle.exec.specs.Price.{Price}
-use Rattle.exec.specs.Lent.{functionWord, part, State, state, topOf}
-use Rattle.exec.specs.Step.{Stepped, windowFits, called, returned, left, acted, step}
-use Rattle.exec.specs.Burst.{halted, burst, paused, landing, stretch, Frame, Ready, AtLeave, Window}
+use Rattle.exec.specs.Lent.{part, state, topOf}
+use Rattle.exec.specs.Step.{Stepped, called, returned, left, acted, step}
+use Rattle.exec.specs.Burst.{halted, burst, paused, landing, stretch, Ready, AtLeave}
 use Rattle.exec.proofs.Parts.{part-lent, put-lent}
-
--- the test of a window is its fact
-pub window-fits : (caller callee : ℕ) (i : Instr) → windowFits caller callee i ≡ true → Window caller callee (i .c) (i .w)
-unfolding windowFits
-window-fits caller callee i e = go (eqb (i .w) 0) refl (leb (i .c + i .w) caller) refl (leb (i .w) callee) refl e
-  where
-    go : (x : Bool) → eqb (i .w) 0 ≡ x → (y : Bool) → leb (i .c + i .w) caller ≡ y → (z : Bool) → leb (i .w) callee ≡ z
-        → (x || (y && z)) ≡ true → Window caller callee (i .c) (i .w)
-    go true p y q z r e = let w : i .w ≡ 0 = eqb-true _ _ p in record { callee = omega arith; caller = λ h. omega arith }
-    go false p true q true r e = record { callee = leb-true _ _ r; caller = λ h. leb-true _ _ q }
-    go false p true q false r e = let bad : _≡_ {A = ℕ} 0 1 = cc in absurd (omega arith)
-    go false p false q z r e = let bad : _≡_ {A = ℕ} 0 1 = cc in absurd (omega arith)
 
 -- ---- the program of a well-formed image
 module _ (s : List ℕ) where

@@ -2,28 +2,27 @@
 use Prim.Native.Nat.{ℕ, suc, _+_, _*_, _-_, _≤_, _<_}
 use mathlib.Core.Path.{_≡_, refl, sym, _∙_, ap, subst}
 use mathlib.Core.Bool.{Bool, true, false}
-use mathlib.Core.List.{List, [], _∷_}
+use mathlib.Core.List.{List}
 use mathlib.Core.Logic.{_≢_}
 use native.Mathlib.Omega.{arith}
 use borrow.Author.Count.{below-more}
 use lib.Dec.{ltb, leb, eqb}
 use lib.ListN.{length, getD, set, length-set}
-use lib.Seq.{sets, getD-set-other, getD-set-same, length-sets}
+use lib.Seq.{getD-set-other, getD-set-same, length-sets}
 use borrow.Author.Tests.{ltb-true, ltb-false, leb-false}
 use Rattle.basis.specs.Choice.{pick}
-use Rattle.runtime.specs.declared.CoreTrap.{CoreTrap}
 use Rattle.instr.specs.declared.Instr.{Instr}
 use Rattle.image.specs.Program.{Program}
 use Rattle.image.specs.Parts.{functionsOf, regsOf, Call}
 use Rattle.straight.specs.declared.Went.{Went}
 use Rattle.straight.specs.declared.Went.the-variants.{On, To, Fails, Leaves}
-use Rattle.straight.specs.Straight.{Local, straight}
+use Rattle.straight.specs.Straight.{straight}
 use Rattle.straight.proofs.Stays.{Stays, straight-stays}
 use Rattle.exec.specs.declared.frame.Top.{Top}
 use Rattle.exec.specs.declared.Step.{Step}
 use Rattle.exec.specs.declared.Step.the-variants.{Go, Ends}
-use Rattle.exec.specs.Lent.{recordOf, functionWord, firstWord, dstWord, part, State, state, topOf, topAt}
-use Rattle.exec.specs.Step.{Stepped, stepped, moved, landed, windowFits, pushedFrames, pushedRegs, called, handed, returned, left, acted, step}
+use Rattle.exec.specs.Lent.{dstWord, part, State, state, topOf, topAt}
+use Rattle.exec.specs.Step.{Stepped, stepped, moved, landed, tooDeep, windowFits, pushedFrames, pushedRegs, called, handed, returned, left, acted, step}
 use Rattle.exec.specs.Burst.{Frame, Ready, Good}
 use Rattle.exec.proofs.Parts.{length-part, length-put}
 
@@ -141,7 +140,7 @@ push-keeps p s t i g f r q =
 called-keeps : (p : Program) (most : ℕ) (s : State) (t : Top) (i : Instr) → GoodIn p s → Keeps p (called p most s t i)
 unfolding called
 called-keeps p most s t i g =
-    by p (leb most (s .depth)) _ _ (λ e. tt) (λ e.
+    by p (tooDeep most (s .depth)) _ _ (λ e. tt) (λ e.
     by p (leb (functionsOf p) (i .b)) _ _ (λ e. tt) (λ known.
     by p (windowFits (t .limit) (regsOf p (i .b)) i) _ _ (λ e.
     by p (ltb (length (s .frames)) (4 * (s .depth + 1))) _ _ (λ e. tt) (λ r.

@@ -1,7 +1,7 @@
 -- Call and Ret, test by test. Assumes nothing.
 use Prim.Native.Nat.{ℕ, _+_, _*_, _-_, _≤_, _<_}
 use mathlib.Core.Path.{_≡_, sym, _∙_}
-use mathlib.Core.Bool.{Bool, true, false}
+use mathlib.Core.Bool.{true, false}
 use mathlib.Core.List.{List}
 use native.Mathlib.Omega.{arith}
 use lib.ListN.{length, getD, set}
@@ -14,38 +14,38 @@ use Rattle.exec.specs.declared.frame.Top.{Top}
 use Rattle.exec.specs.declared.Ending.the-variants.{Returned, Trapped, FrameRoom, RegisterRoom}
 use Rattle.exec.specs.declared.Step.the-variants.{Go, Ends}
 use Rattle.exec.specs.Lent.{dstWord, state, topOf}
-use Rattle.exec.specs.Step.{Stepped, stepped, windowFits, pushedFrames, pushedRegs, called, handed, returned}
+use Rattle.exec.specs.Step.{Stepped, stepped, tooDeep, windowFits, pushedFrames, pushedRegs, called, handed, returned}
 use Rattle.exec.specs.Burst.{Ready}
 
 -- ---- Call
 module _ (p : Program) (most : ℕ) (fr rg : List ℕ) (d : ℕ) (t : Top) (i : Instr) where
   pub call-deep : most ≤ d → stepped (Ends (Trapped CallDepthExceeded)) fr rg ≡ called p most (state fr rg d) t i
-  unfolding called
+  unfolding called tooDeep
   call-deep h = rw (le-leb _ _ h)
 
   module _ (shallow : d < most) where
     pub call-unknown : functionsOf p ≤ i .b → stepped (Ends (Trapped InvalidFunction)) fr rg ≡ called p most (state fr rg d) t i
-    unfolding called
+    unfolding called tooDeep
     call-unknown h = rw (lt-leb _ _ shallow, le-leb _ _ h)
 
     module _ (exists : i .b < functionsOf p) (n : ℕ) (e : n ≡ regsOf p (i .b)) where
       pub call-window : windowFits (t .limit) n i ≡ false → stepped (Ends (Trapped InvalidRegister)) fr rg ≡ called p most (state fr rg d) t i
-      unfolding called
+      unfolding called tooDeep
       call-window w = rw (lt-leb _ _ shallow, lt-leb _ _ exists, ← e, w)
 
       module _ (w : windowFits (t .limit) n i ≡ true) where
         pub call-frames : length fr < 4 * (d + 1) → stepped (Ends FrameRoom) fr rg ≡ called p most (state fr rg d) t i
-        unfolding called
+        unfolding called tooDeep
         call-frames h = rw (lt-leb _ _ shallow, lt-leb _ _ exists, ← e, w, lt-ltb _ _ h)
 
         module _ (room : 4 * (d + 1) ≤ length fr) where
           pub call-registers : length rg < t .first + t .limit + n → stepped (Ends RegisterRoom) fr rg ≡ called p most (state fr rg d) t i
-          unfolding called
+          unfolding called tooDeep
           call-registers h = rw (lt-leb _ _ shallow, lt-leb _ _ exists, ← e, w, le-ltb _ _ room, lt-ltb _ _ h)
 
           pub call-push : t .first + t .limit + n ≤ length rg
               → stepped (Go (d + 1)) (pushedFrames fr d t i) (pushedRegs rg t i n) ≡ called p most (state fr rg d) t i
-          unfolding called
+          unfolding called tooDeep
           call-push h = rw (lt-leb _ _ shallow, lt-leb _ _ exists, ← e, w, le-ltb _ _ room, le-ltb _ _ h)
 
 -- ---- Ret

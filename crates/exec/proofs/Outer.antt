@@ -20,7 +20,7 @@ use Rattle.exec.specs.declared.Step.the-variants.{Go, Ends}
 use Rattle.exec.specs.Price.{Price, Fair}
 use Rattle.exec.specs.Lent.{part, put, state, topOf}
 use Rattle.exec.specs.Step.{stepped, step}
-use Rattle.exec.specs.Run.{Final, final, later, run}
+use Rattle.exec.specs.Run.{final, later, run}
 use Rattle.exec.specs.Burst.{Halted, burst, Paused, paused, stretch, Ready, Good, AtLeave}
 use Rattle.exec.proofs.Parts.{length-part, length-put, part-put}
 use Rattle.exec.proofs.Runs.{Running, afterCharge}

@@ -1,5 +1,5 @@
 -- A stretch with fuel for one instruction is one step. Assumes nothing.
-use Prim.Native.Nat.{ℕ, _+_, _-_, _≤_, _<_}
+use Prim.Native.Nat.{ℕ, _+_, _-_}
 use mathlib.Core.Path.{_≡_, refl, sym, ap, _∙_}
 use mathlib.Core.Bool.{Bool, true, false}
 use mathlib.Core.List.{List}
@@ -17,7 +17,6 @@ use Rattle.straight.specs.declared.Went.{Went}
 use Rattle.straight.specs.declared.Went.the-variants as went
 use Rattle.straight.specs.Straight.{Local, straight}
 use Rattle.straight.proofs.Stays.{Stays, straight-stays}
-use Rattle.exec.specs.declared.frame.Top.{Top}
 use Rattle.exec.specs.declared.burst.Why.{Why}
 use Rattle.exec.specs.declared.burst.Why.the-variants.{Past, Dry, Fails, Leaves}
 use Rattle.exec.specs.declared.Ending.the-variants.{Trapped}

@@ -1,7 +1,7 @@
 -- Whether frames stand, test by test, and what follows where they do. Assumes nothing.
 use Prim.Native.Nat.{ℕ, _+_, _*_, _-_, _/_, _≤_, _<_}
 use mathlib.Core.Path.{_≡_, refl, sym, _∙_, subst}
-use mathlib.Core.Bool.{Bool, true, false, _||_, _&&_}
+use mathlib.Core.Bool.{Bool, true, false, _||_, _&&_, true≢false}
 use mathlib.Core.List.{List}
 use native.Mathlib.Omega.{arith}
 use lib.Dec.{ltb, leb, eqb}
@@ -15,7 +15,7 @@ use Rattle.exec.specs.Burst.{Frame, Ready}
 
 both : (a b : Bool) → (a && b) ≡ true → (a ≡ true) × (b ≡ true)
 both true b e = (refl, e)
-both false b e = let bad : _≡_ {A = ℕ} 0 1 = cc in absurd (omega arith)
+both false b e = absurd (true≢false (sym e))
 
 module _ (p : Program) (fr : List ℕ) (n k : ℕ) where
   pub no-record : length fr / 4 ≤ k → false ≡ standsAt p fr n k

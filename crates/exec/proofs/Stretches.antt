@@ -4,13 +4,12 @@ use mathlib.Core.Path.{_≡_, refl, sym, ap, _∙_, subst}
 use mathlib.Core.Bool.{Bool, true, false}
 use mathlib.Core.List.{List}
 use native.Mathlib.Omega.{arith}
-use native.Mathlib.Nat.{sub-self, add-zero, zero-add}
-use lib.ListN.{length, set, length-set}
+use native.Mathlib.Nat.{sub-self}
+use lib.ListN.{length}
 use lib.Seq.{getD-set-same, getD-set-other, set-set, set-getD}
 use lib.Dec.{leb, ltb}
 use borrow.Author.Tests.{leb-true, leb-false, ltb-true, ltb-false}
 use Rattle.basis.specs.Choice.{pick}
-use Rattle.runtime.specs.declared.CoreTrap.{CoreTrap}
 use Rattle.runtime.specs.declared.CoreTrap.the-variants.{InvalidPc, FuelExceeded}
 use Rattle.instr.specs.declared.Instr.{Instr}
 use Rattle.image.specs.Program.{Program}
@@ -22,19 +21,17 @@ use Rattle.straight.proofs.Stays.{Stays, straight-stays}
 use Rattle.exec.specs.declared.frame.Top.{Top}
 use Rattle.exec.specs.declared.burst.Why.{Why}
 use Rattle.exec.specs.declared.burst.Why.the-variants.{Past, Dry, Fails, Leaves}
-use Rattle.exec.specs.declared.Ending.{Ending}
 use Rattle.exec.specs.declared.Ending.the-variants.{Trapped}
 use Rattle.exec.specs.declared.Step.{Step}
 use Rattle.exec.specs.declared.Step.the-variants.{Go, Ends}
 use Rattle.exec.specs.Price.{Price, Fair}
-use Rattle.exec.specs.Lent.{part, put, State, state, topOf, topAt}
-use Rattle.exec.specs.Step.{Stepped, stepped, goes, stops, moved, landed, left, acted, step, nextInstr}
+use Rattle.exec.specs.Lent.{part, State, state, topOf, topAt}
+use Rattle.exec.specs.Step.{Stepped, goes, stops, moved, landed, left, acted, step, nextInstr}
 use Rattle.exec.specs.Run.{Final, final, later, costAt, runFor, run}
-use Rattle.exec.specs.Burst.{Halted, halted, further, burst, Paused, paused, stretch, Frame, Ready, Good, AtLeave}
-use Rattle.exec.proofs.Parts.{length-part, length-put, part-put, put-put, put-part}
+use Rattle.exec.specs.Burst.{Halted, halted, further, burst, stretch, Ready}
+use Rattle.exec.proofs.Parts.{length-part, part-put, put-put, put-part}
 use Rattle.exec.proofs.Bursts.{burst-past, burst-dry, burst-step}
-use Rattle.exec.proofs.Runs.{Inside, Running, afterCharge, for-past, for-dry, for-step, enough, onward-later, onward-same, later-later}
-use Rattle.exec.proofs.Keeps.{good-ready, moved-good, step-keeps}
+use Rattle.exec.proofs.Runs.{Inside, afterCharge, for-past, for-dry, for-step, enough, onward-later, onward-same, later-later}
 
 -- ---- what is known where a burst stops
 -- at an instruction that leaves: it is there, and it was charged

@@ -24,7 +24,7 @@ use Rattle.exec.specs.declared.CoreOutcome.the-variants.{Done, Image, Fr
 use Rattle.exec.specs.declared.CoreExecution.{CoreExecution}
 use Rattle.exec.specs.declared.CoreExecution.the-variants as settling
 use Rattle.exec.specs.Step.{Found, found}
-use Rattle.exec.specs.Execute.{resultNumbers, outcomeNumbers, valueIn, Executed, executed, executionNumbers}
+use Rattle.exec.specs.Execute.{outcomeNumbers, valueIn, Executed, executed, executionNumbers}
 
 -- ---- the way back from numbers
 trapAt : ℕ → CoreTrap

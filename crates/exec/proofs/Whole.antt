@@ -1,7 +1,7 @@
 -- What the public functions answer, by what the functions below them do. Assumes nothing.
 use Prim.Native.Nat.{ℕ, _+_, _<_}
 use mathlib.Core.Path.{_≡_, refl, sym, ap, _∙_}
-use mathlib.Core.Bool.{Bool, true, false, _&&_}
+use mathlib.Core.Bool.{true, false, _&&_}
 use mathlib.Core.List.{List, [], _∷_}
 use native.Mathlib.Omega.{arith}
 use lib.Dec.{eqb, ltb}
@@ -12,7 +12,6 @@ use Rattle.runtime.specs.Trap.{trapCode}
 use Rattle.value.specs.declared.result.CoreStatus.{CoreStatus}
 use Rattle.value.specs.declared.result.CoreStatus.the-variants as status
 use Rattle.value.specs.declared.result.CoreResult.{CoreResult}
-use Rattle.value.specs.Result.{statusWord}
 use Rattle.image.specs.Records.{form1}
 use Rattle.image.specs.Image.{faultNumbers, imageFault}
 use Rattle.image.specs.WellFormed.{WellFormed}
@@ -28,8 +27,8 @@ use Rattle.exec.specs.declared.CoreOutcome.{CoreOutcome}
 use Rattle.exec.specs.declared.CoreOutcome.the-variants.{Done, Image, FrameRoom, RegisterRoom}
 use Rattle.exec.specs.Price.{unit}
 use Rattle.exec.specs.Lent.{state}
-use Rattle.exec.specs.Step.{Stepped, stepped, stands, round, found, stepFound}
-use Rattle.exec.specs.Run.{Final, final}
+use Rattle.exec.specs.Step.{stepped, stands, round, found, stepFound}
+use Rattle.exec.specs.Run.{final}
 use Rattle.exec.specs.Execute.{resultNumbers, outcomeNumbers, outcomeOf, entered, executed, ended, execution, byStatus, settled, executionNumbers, trapAlone}
 
 module _ (s : List ℕ) where

@@ -7,7 +7,6 @@ use lib.ListN.{length, getD, take, replicate}
 use lib.Seq.{sets}
 use Rattle.basis.specs.Choice.{pick}
 use Rattle.basis.specs.Answers.{isFine}
-use Rattle.runtime.specs.declared.CoreTrap.{CoreTrap}
 use Rattle.runtime.specs.declared.CoreTrap.the-variants.{InvalidFunction}
 use Rattle.value.specs.declared.result.CoreStatus.{CoreStatus}
 use Rattle.value.specs.declared.result.CoreStatus.the-variants as status

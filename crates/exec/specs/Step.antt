@@ -56,6 +56,10 @@ landed s t leaving (Fails trap) w = stops s (Ends (Trapped trap))
 landed s t leaving Leaves w = leaving
 
 -- ---- Call: dst is in a, the function in b, arg_base in c, arg_count in w
+-- there are as many frames as the limit allows, the entry frame among them
+unfoldable pub tooDeep : ℕ → ℕ → Bool
+tooDeep most depth = leb most depth
+
 -- no arguments, or all of them within the caller's registers and no more than the callee has
 unfoldable pub windowFits : ℕ → ℕ → Instr → Bool
 windowFits caller callee i = eqb (i .w) 0 || (leb (i .c + i .w) caller && leb (i .w) callee)
@@ -75,7 +79,7 @@ pushedRegs regs t i n =
 unfoldable pub called : Program → ℕ → State → Top → Instr → Stepped
 called p most s t i =
     let n = regsOf p (i .b) in
-    pick (leb most (s .depth)) (stops s (Ends (Trapped CallDepthExceeded)))
+    pick (tooDeep most (s .depth)) (stops s (Ends (Trapped CallDepthExceeded)))
     (pick (leb (functionsOf p) (i .b)) (stops s (Ends (Trapped InvalidFunction)))
     (pick (windowFits (t .limit) n i)
     (pick (ltb (length (s .frames)) (frameWords * (s .depth + 1))) (stops s (Ends FrameRoom))

@@ -18,7 +18,7 @@ ghost use Rattle.image.specs.Records.{form1, form1Instr, headerOf, instrPlace};
 ghost use Rattle.image.specs.WellFormed.{WellFormed};
 ghost use Rattle.image.specs.Program.{decode};
 ghost use Rattle.exec.specs.Price.{unit};
-ghost use Rattle.exec.specs.Lent.{topOf, state};
+ghost use Rattle.exec.specs.Lent.{state};
 ghost use Rattle.exec.specs.Burst.{halted, burst, paused, stretch, Ready};
 
 // Why a burst stopped: at the function's end, without fuel for the next instruction, by a trap, or at a Call or Ret, which is charged

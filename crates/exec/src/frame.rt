@@ -4,7 +4,7 @@ use image::record::FunctionRecord;
 use image::record::HEADER_SIZE;
 use image::record::function_at;
 ghost use mathlib.Core.Path.{_≡_};
-ghost use Prim.Native.Nat.{_+_, _*_, _-_, _≤_, _<_, _^_};
+ghost use Prim.Native.Nat.{_+_, _*_, _-_, _≤_, _<_};
 ghost use lib.ListN.{length, set, take, drop, replicate};
 ghost use lib.Seq.{sets};
 ghost use Rattle.image.specs.Records.{form1, headerOf, functionNo};

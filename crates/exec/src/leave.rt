@@ -10,13 +10,14 @@ use image::record::function_count;
 use instr::Instr;
 use runtime::CoreTrap;
 ghost use mathlib.Core.Path.{_≡_};
+ghost use mathlib.Core.Bool.{true};
 ghost use Prim.Native.Nat.{_+_, _*_, _-_, _≤_, _<_, _^_};
 ghost use lib.ListN.{length};
 ghost use Rattle.image.specs.Records.{form1};
 ghost use Rattle.image.specs.WellFormed.{WellFormed};
 ghost use Rattle.image.specs.Program.{decode};
 ghost use Rattle.exec.specs.Lent.{topOf, state};
-ghost use Rattle.exec.specs.Step.{stepped, windowFits, pushedFrames, pushedRegs, called, handed, returned, left, step};
+ghost use Rattle.exec.specs.Step.{stepped, windowFits, pushedFrames, pushedRegs, called, handed, returned, step};
 ghost use Rattle.exec.specs.Burst.{Ready, AtLeave, Window};
 
 const CALL: u8 = 54;
@@ -24,6 +25,7 @@ const CALL: u8 = 54;
 fn window_fits(caller: usize, callee: usize, i: Instr) -> bool
     requires { ⌜ i .c < 2 ^ 16 ⌝ }
     ensures { λ r. ⌜ r ≡ windowFits caller callee i ⌝ }
+    ensures { λ r. ⌜ (r ≡ true → Window caller callee (i .c) (i .w)) ⌝ }
 {
     let count = i.w as usize;
     if count == 0 {

@@ -1,10 +1,9 @@
 -- Records past the end of the bytes are all zeros. Assumes nothing.
-use Prim.Native.Nat.{ℕ, _+_, _*_, _^_, _≤_}
+use Prim.Native.Nat.{ℕ, _+_, _≤_}
 use mathlib.Core.Path.{_≡_}
 use mathlib.Core.List.{List}
-use lib.ListN.{length, getD}
+use lib.ListN.{length}
 use native.Mathlib.Omega.{arith}
-use Rattle.basis.specs.Bytes.{byteAt, halfAt, wordAt}
 use Rattle.basis.proofs.Past.{byte-past, half-past, word-past}
 use Rattle.image.specs.Records.{functionAt, form1Instr}
 

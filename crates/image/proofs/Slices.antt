@@ -1,8 +1,8 @@
 -- A record read out of its own bytes alone is the record. Assumes nothing.
-use Prim.Native.Nat.{ℕ, _+_, _-_, _≤_, _<_}
-use mathlib.Core.Path.{_≡_, ap, _∙_}
+use Prim.Native.Nat.{ℕ, _+_, _-_, _<_}
+use mathlib.Core.Path.{_≡_, _∙_}
 use mathlib.Core.List.{List}
-use lib.ListN.{length, take, drop}
+use lib.ListN.{take, drop}
 use lib.Seq.{getD-take, getD-drop}
 use native.Mathlib.Omega.{arith}
 use native.Mathlib.Nat.{add-zero}
