@@ -21,6 +21,7 @@ use Rattle.exec.specs.Lent.{part, state, topOf}
 use Rattle.exec.specs.Step.{Stepped, called, returned, left, acted, step}
 use Rattle.exec.specs.Burst.{halted, burst, paused, landing, stretch, Ready, AtLeave}
 use Rattle.exec.proofs.Parts.{part-lent, put-lent}
+use Rattle.exec.proofs.Stretches.{placed, top-at}
 
 -- ---- the program of a well-formed image
 module _ (s : List ℕ) where
@@ -85,6 +86,10 @@ module _ (p : Program) (fr rg : List ℕ) (d : ℕ) (t : Top) (g : Ready p fr (l
       ap (paused y left (set fr (4 * (d - 1) + 1) place)) (put-lent rg (t .first) (t .limit) w)
       ∙ ap (landing (state fr rg d) t) b
       ∙ ap (λ (u : Top). landing (state fr rg d) u (burst p price (u .function) fuel fuel (u .place) (part rg (u .first) (u .limit)))) e
+
+  -- the frame then
+  pub top-moved : (n : ℕ) → record { function = t .function; place = n; first = t .first; limit = t .limit } ≡ topOf p (set fr (4 * (d - 1) + 1) n) d
+  top-moved n = ap (λ (u : Top). placed u n) e ∙ sym (top-at p 0 fr rg d g n (part rg 0 0))
 
   -- at a Call or Ret
   module _ (a : AtLeave p fr rg d) where

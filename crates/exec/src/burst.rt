@@ -2,6 +2,7 @@
 // words. Everything that a step of every opcode shares stands here once: the test of the place, the instruction, the charge. The
 // charge is the meter's rule on a plain number: through the meter the compiler makes five instructions of what here are two.
 use crate::frame;
+use crate::frame::Top;
 use image::record::FUNCTION_SIZE;
 use image::record::HEADER_SIZE;
 use image::record::INSTR_SIZE;
@@ -18,7 +19,7 @@ ghost use Rattle.image.specs.Records.{form1, form1Instr, headerOf, instrPlace};
 ghost use Rattle.image.specs.WellFormed.{WellFormed};
 ghost use Rattle.image.specs.Program.{decode};
 ghost use Rattle.exec.specs.Price.{unit};
-ghost use Rattle.exec.specs.Lent.{state};
+ghost use Rattle.exec.specs.Lent.{state, topOf};
 ghost use Rattle.exec.specs.Burst.{halted, burst, paused, stretch, Ready};
 
 // Why a burst stopped: at the function's end, without fuel for the next instruction, by a trap, or at a Call or Ret, which is charged
@@ -113,16 +114,44 @@ fn burst(image: &[u8], function: usize, win: &mut [u64], from: usize, fuel: u64)
     }
 }
 
+// A burst that stopped, and its frame then.
+pub struct Pause {
+    pub why: Why,
+    pub left: u64,
+    pub top: Top,
+}
+
 // The running frame's burst: its registers are lent as a part, and its place goes back into its record.
-pub fn stretch(image: &[u8], frames: &mut [u64], registers: &mut [u64], d: usize, fuel: u64) -> Halt
+pub fn stretch(
+    image: &[u8],
+    frames: &mut [u64],
+    registers: &mut [u64],
+    d: usize,
+    fuel: u64,
+) -> Pause
     requires { ⌜ WellFormed form1 (now image) ⌝ }
     requires { ⌜ Ready (decode form1 (now image)) (now frames) (length (now registers)) d ⌝ }
     ensures { λ r. ⌜ paused (r .why) (r .left) (now (frames .exit)) (now (registers .exit)) ≡ stretch (decode form1 (now (image .entry))) unit fuel (state (now (frames .entry)) (now (registers .entry)) d) ⌝ }
+    ensures { λ r. ⌜ r .top ≡ topOf (decode form1 (now (image .entry))) (now (frames .exit)) d ⌝ }
 {
     let t = frame::running(image, frames, d);
+    let function = t.function;
+    let limit = t.limit;
     let lo = t.first;
-    let hi = lo + t.limit;
-    let h = burst(image, t.function, &mut registers[lo..hi], t.place, fuel);
-    frame::move_to(frames, d, h.place as u64);
-    h
+    let hi = lo + limit;
+    let h = burst(image, function, &mut registers[lo..hi], t.place, fuel);
+    let place = h.place;
+    let why = h.why;
+    frame::move_to(frames, d, place as u64);
+    let top = Top {
+        function,
+        place,
+        first: lo,
+        limit,
+    };
+    Pause {
+        why,
+        left: h.left,
+        top,
+    }
 }

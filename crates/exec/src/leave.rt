@@ -136,14 +136,21 @@ fn ret(image: &[u8], frames: &[u64], registers: &mut [u64], d: usize, t: Top, i:
     }
 }
 
-// The instruction at which the running frame is left.
-pub fn leave(image: &[u8], frames: &mut [u64], registers: &mut [u64], d: usize, most: usize) -> Step
+// The instruction at which the running frame t is left.
+pub fn leave(
+    image: &[u8],
+    frames: &mut [u64],
+    registers: &mut [u64],
+    d: usize,
+    most: usize,
+    t: Top,
+) -> Step
     requires { ⌜ WellFormed form1 (now image) ⌝ }
     requires { ⌜ Ready (decode form1 (now image)) (now frames) (length (now registers)) d ⌝ }
     requires { ⌜ AtLeave (decode form1 (now image)) (now frames) (now registers) d ⌝ }
+    requires { ⌜ t ≡ topOf (decode form1 (now image)) (now frames) d ⌝ }
     ensures { λ r. ⌜ stepped r (now (frames .exit)) (now (registers .exit)) ≡ step (decode form1 (now (image .entry))) most (state (now (frames .entry)) (now (registers .entry)) d) ⌝ }
 {
-    let t = frame::running(image, frames, d);
     let place = t.place;
     let f = frame::function_of(image, t.function);
     let i = instr_of(image, code_place(image, f.first), place);

@@ -91,6 +91,7 @@ fn run(image: &[u8], frames: &mut [u64], registers: &mut [u64], most: usize, fue
         left = h.left;
         let used = fuel - left;
         let why = h.why;
+        let top = h.top;
         match why {
             Why::Past => {
                 return Ended {
@@ -110,7 +111,7 @@ fn run(image: &[u8], frames: &mut [u64], registers: &mut [u64], most: usize, fue
                     used,
                 };
             }
-            Why::Leaves => match leave::leave(image, frames, registers, d, most) {
+            Why::Leaves => match leave::leave(image, frames, registers, d, most, top) {
                 Step::Go(n) => {
                     d = n;
                 }
@@ -261,6 +262,7 @@ fn one_step(image: &[u8], frames: &mut [u64], registers: &mut [u64], d: usize, m
     let h = burst::stretch(image, frames, registers, d, 1);
     let left = h.left;
     let why = h.why;
+    let top = h.top;
     match why {
         Why::Past => if left == 0 {
             Step::Go(d)
@@ -269,7 +271,7 @@ fn one_step(image: &[u8], frames: &mut [u64], registers: &mut [u64], d: usize, m
         },
         Why::Dry => Step::Go(d),
         Why::Fails(t) => Step::Ends(Ending::Trapped(t)),
-        Why::Leaves => leave::leave(image, frames, registers, d, most),
+        Why::Leaves => leave::leave(image, frames, registers, d, most, top),
     }
 }
 

@@ -22,7 +22,7 @@ enum-told-3 : tie.Need-enum-told-3
 enum-told-3 c = search needs
 
 leave-requires : tie.Need-leave-requires
-leave-requires c κs = (c .before .before .before .before .before .before .before .before .before .before .before .before .before .before .pre .0, (stretch-ready _ _ unit-fair _ _ _ _ (c .before .before .before .before .before .before .before .before .before .before .before .before .before .before .pre .1) _ _ _ _ (c .before .before .before .before .before .before .before .before .stretch .ensures), stretch-leaves _ _ unit-fair _ _ _ _ (c .before .before .before .before .before .before .before .before .before .before .before .before .before .before .pre .1) _ _ _ (rw (c .before .before .enum-told3 .given .1) at (c .before .before .before .before .before .before .before .before .stretch .ensures))))
+leave-requires c κs = (c .before .before .before .before .before .before .before .before .before .before .before .before .before .before .before .pre .0, (stretch-ready _ _ unit-fair _ _ _ _ (c .before .before .before .before .before .before .before .before .before .before .before .before .before .before .before .pre .1) _ _ _ _ (c .before .before .before .before .before .before .before .before .before .stretch .ensures .0), (stretch-leaves _ _ unit-fair _ _ _ _ (c .before .before .before .before .before .before .before .before .before .before .before .before .before .before .before .pre .1) _ _ _ (rw (c .before .before .enum-told3 .given .1) at (c .before .before .before .before .before .before .before .before .before .stretch .ensures .0)), c .before .before .before .before .before .before .before .before .before .stretch .ensures .1)))
 
 same-length : tie.Need-same-length
 same-length c = search needs
@@ -31,7 +31,7 @@ same-length-2 : tie.Need-same-length-2
 same-length-2 c = search needs
 
 returns : tie.Need-returns
-returns c = one-on _ _ _ _ _ (c .before .before .before .before .before .before .before .before .before .before .before .before .before .pre .1) _ _ _ (rw (c .before .enum-told .given .1) at (c .before .before .before .before .before .before .before .stretch .ensures)) (c .if1 .taken)
+returns c = one-on _ _ _ _ _ (c .before .before .before .before .before .before .before .before .before .before .before .before .before .before .pre .1) _ _ _ (rw (c .before .enum-told .given .1) at (c .before .before .before .before .before .before .before .before .stretch .ensures .0)) (c .if1 .taken)
 
 same-length-3 : tie.Need-same-length-3
 same-length-3 c = search needs
@@ -40,7 +40,7 @@ same-length-4 : tie.Need-same-length-4
 same-length-4 c = search needs
 
 returns-2 : tie.Need-returns-2
-returns-2 c = one-past _ _ _ _ _ (c .before .before .before .before .before .before .before .before .before .before .before .before .before .pre .1) _ _ _ (rw (c .before .enum-told .given .1) at (c .before .before .before .before .before .before .before .stretch .ensures)) (c .if1 .left)
+returns-2 c = one-past _ _ _ _ _ (c .before .before .before .before .before .before .before .before .before .before .before .before .before .before .pre .1) _ _ _ (rw (c .before .enum-told .given .1) at (c .before .before .before .before .before .before .before .before .stretch .ensures .0)) (c .if1 .left)
 
 same-length-5 : tie.Need-same-length-5
 same-length-5 c = search needs
@@ -49,7 +49,7 @@ same-length-6 : tie.Need-same-length-6
 same-length-6 c = search needs
 
 returns-3 : tie.Need-returns-3
-returns-3 c = one-dry _ _ _ _ _ (c .before .before .before .before .before .before .before .before .before .before .before .before .pre .1) _ _ _ (rw (c .enum-told2 .given .1) at (c .before .before .before .before .before .before .stretch .ensures))
+returns-3 c = one-dry _ _ _ _ _ (c .before .before .before .before .before .before .before .before .before .before .before .before .before .pre .1) _ _ _ (rw (c .enum-told2 .given .1) at (c .before .before .before .before .before .before .before .stretch .ensures .0))
 
 same-length-7 : tie.Need-same-length-7
 same-length-7 c = search needs
@@ -58,7 +58,7 @@ same-length-8 : tie.Need-same-length-8
 same-length-8 c = search needs
 
 returns-4 : tie.Need-returns-4
-returns-4 c = one-fails _ _ _ _ _ (c .before .before .before .before .before .before .before .before .before .before .before .before .before .pre .1) _ _ _ (c .before .why .given .0 .0) (rw (c .before .why .given .1) at (c .before .before .before .before .before .before .before .stretch .ensures))
+returns-4 c = one-fails _ _ _ _ _ (c .before .before .before .before .before .before .before .before .before .before .before .before .before .before .pre .1) _ _ _ (c .before .why .given .0 .0) (rw (c .before .why .given .1) at (c .before .before .before .before .before .before .before .before .stretch .ensures .0))
 
 same-length-9 : tie.Need-same-length-9
 same-length-9 c = search needs
@@ -67,7 +67,7 @@ same-length-10 : tie.Need-same-length-10
 same-length-10 c = search needs
 
 returns-5 : tie.Need-returns-5
-returns-5 c = c .before .before .before .before .leave .ensures ∙ one-leaves _ _ _ _ _ (c .before .before .before .before .before .before .before .before .before .before .before .before .before .before .before .before .before .before .before .pre .1) _ _ _ (rw (c .before .before .before .before .before .before .before .enum-told3 .given .1) at (c .before .before .before .before .before .before .before .before .before .before .before .before .before .stretch .ensures))
+returns-5 c = c .before .before .before .before .leave .ensures ∙ one-leaves _ _ _ _ _ (c .before .before .before .before .before .before .before .before .before .before .before .before .before .before .before .before .before .before .before .before .pre .1) _ _ _ (rw (c .before .before .before .before .before .before .before .enum-told3 .given .1) at (c .before .before .before .before .before .before .before .before .before .before .before .before .before .before .stretch .ensures .0))
 
 pub one-step-spec : {M : Type 1} → statement M
 one-step-spec =
