@@ -78,7 +78,7 @@ pub enum CoreExecution {
     RegisterRoom(u64),
 }
 
-// A run from d frames on. They are there, or this is not called.
+// The run of the entry frame, which stands: stretch after stretch, and Call or Ret between them.
 fn run(image: &[u8], frames: &mut [u64], registers: &mut [u64], most: usize, fuel: u64) -> Ended
     requires { ⌜ WellFormed form1 (now image) ⌝ }
     requires { ⌜ Good (decode form1 (now image)) (now frames) (length (now registers)) 1 ⌝ }
