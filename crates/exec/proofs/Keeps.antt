@@ -89,7 +89,7 @@ landed-keeps p s l (To n) w g k e =
 landed-keeps p s l (Fails t) w g k e = tt
 landed-keeps p s l Leaves w g k e = k
 
-handed-keeps : (p : Program) (s : State) (v : ℕ) → GoodIn p s → 1 < s .depth → Keeps p (handed p s v)
+pub handed-keeps : (p : Program) (s : State) (v : ℕ) → GoodIn p s → 1 < s .depth → Keeps p (handed p s v)
 unfolding handed
 handed-keeps p s v g h =
     by p (ltb (dstWord (s .frames) (s .depth - 1)) (topOf p (s .frames) (s .depth - 1) .limit)) _ _
@@ -104,7 +104,7 @@ returned-keeps p s t i g =
     (λ e. tt)
 
 -- a record is pushed on top
-push-keeps : (p : Program) (s : State) (t : Top) (i : Instr) → GoodIn p s → i .b < functionsOf p
+pub push-keeps : (p : Program) (s : State) (t : Top) (i : Instr) → GoodIn p s → i .b < functionsOf p
     → 4 * (s .depth + 1) ≤ length (s .frames) → t .first + t .limit + regsOf p (i .b) ≤ length (s .regs)
     → Good p (pushedFrames (s .frames) (s .depth) t i) (length (pushedRegs (s .regs) t i (regsOf p (i .b)))) (s .depth + 1)
 unfolding pushedFrames pushedRegs

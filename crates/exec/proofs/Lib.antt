@@ -14,3 +14,4 @@ pub mod Entry
 pub mod Whole
 pub mod Counts
 pub mod Unique
+pub mod Values

@@ -2,11 +2,11 @@
 use Prim.Native.Nat.{ℕ, zero, suc, _+_, _≤_, _<_, _-_}
 use mathlib.Core.Path.{_≡_, refl, sym, ap, _∙_}
 use mathlib.Core.List.{List, [], _∷_, _++_}
-use native.Mathlib.Nat.{add-zero, add-suc, suc-add}
+use native.Mathlib.Nat.{add-zero, add-suc, suc-add, not-suc-le-zero, le-of-suc-le-suc}
 use native.Mathlib.Numerals.{add-one}
 use native.Mathlib.Omega.{arith}
-use lib.ListN.{length, getD, set, take, drop, replicate, length-drop, length-replicate, replicate-append-replicate}
-use lib.Seq.{sets, getD-set-other, take-suc, getD-drop, length-take-le}
+use lib.ListN.{length, getD, set, take, drop, replicate, length-set, length-drop, length-replicate, replicate-append-replicate}
+use lib.Seq.{sets, getD-set-same, getD-set-other, take-suc, getD-drop, length-take-le}
 
 pub sets-snoc : (l : List ℕ) (d : ℕ) (vs : List ℕ) (v : ℕ) → sets l d (vs ++ (v ∷ [])) ≡ set (sets l d vs) (d + length vs) v
 sets-snoc l d [] v = rw add-zero
@@ -34,7 +34,7 @@ clear-more l d i =
     let more : replicate {A = ℕ} (i + 1) 0 ≡ replicate i 0 ++ (0 ∷ []) = sym (replicate-append-replicate {A = ℕ} i 1 0) in
     rw (more, sets-snoc, length-replicate)
 
-take-len : (l : List ℕ) (s d w : ℕ) → d ≤ length l → (1 ≤ w → s + w ≤ d) → length (take w (drop s l)) ≡ w
+pub take-len : (l : List ℕ) (s d w : ℕ) → d ≤ length l → (1 ≤ w → s + w ≤ d) → length (take w (drop s l)) ≡ w
 take-len l s d zero r h = refl
 take-len l s d (suc w) r h =
     let k : s + suc w ≤ d = h (omega arith) in
@@ -52,3 +52,13 @@ record-sets l k a b c d =
     let two : k + 2 ≡ suc (suc k) = omega arith in
     let three : k + 3 ≡ suc (suc (suc k)) = omega arith in
     rw (one, two, three)
+
+-- a word among those that were stored
+pub getD-sets-in : (l : List ℕ) (d : ℕ) (vs : List ℕ) (j : ℕ) → d + length vs ≤ length l → j < length vs → getD (sets l d vs) (d + j) 0 ≡ getD vs j 0
+getD-sets-in l d [] j fits h = absurd (not-suc-le-zero h)
+getD-sets-in l d (a ∷ vs) zero fits h =
+    let e : d + 0 ≡ d = omega arith in
+    rw e (getD-sets-below (set l d a) (suc d) d vs (omega arith) ∙ getD-set-same l d a 0 (omega arith))
+getD-sets-in l d (a ∷ vs) (suc j) fits h =
+    let e : d + suc j ≡ suc d + j = omega arith in
+    rw e (getD-sets-in (set l d a) (suc d) vs j (rw (length-set l d a) (omega arith)) (le-of-suc-le-suc h))

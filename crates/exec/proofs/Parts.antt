@@ -3,7 +3,7 @@ use Prim.Native.Nat.{ℕ, _+_, _-_, _≤_, _<_}
 use mathlib.Core.Path.{_≡_, sym, ap, _∙_}
 use mathlib.Core.List.{List, _++_}
 use native.Mathlib.Omega.{arith}
-use lib.ListN.{length, getD, set, take, drop, length-append, length-drop, take-append-drop}
+use lib.ListN.{length, getD, set, take, drop, length-append, length-drop, take-append-drop, List·getD-append}
 use lib.Seq.{length-take-le, take-at, drop-at, getD-take, getD-drop, take-set-le, drop-set-add, take-set-lt, drop-set-lt}
 use Rattle.exec.specs.Lent.{part, put}
 
@@ -50,3 +50,13 @@ module _ (xs : List ℕ) (a k : ℕ) (fits : a + k ≤ length xs) where
       let p : take k (set (drop a xs) r v) ≡ set (part xs a k) r v = take-set-lt k (drop a xs) r v h in
       let q : drop k (set (drop a xs) r v) ≡ drop k (drop a xs) = drop-set-lt k (drop a xs) r v h in
       sym (sym (put-part ys a k) ∙ rw (f, g, p, q))
+
+  -- and a word of the whole is one of the part, or as it was
+  pub put-low : (ys : List ℕ) (j : ℕ) → j < a → getD (put xs a k ys) j 0 ≡ getD xs j 0
+  put-low ys j h = List·getD-append (take a xs) (ys ++ drop k (drop a xs)) 0 j (rw front h) ∙ getD-take a xs j 0 h
+
+  pub put-in : (ys : List ℕ) (j : ℕ) → length ys ≡ k → j < k → getD (put xs a k ys) (a + j) 0 ≡ getD ys j 0
+  put-in ys j e h =
+      sym (getD-drop a (put xs a k ys) j 0)
+      ∙ ap (λ (l : List ℕ). getD l j 0) (drop-at (take a xs) (ys ++ drop k (drop a xs)) a front)
+      ∙ List·getD-append ys (drop k (drop a xs)) 0 j (rw e h)

@@ -44,8 +44,8 @@ outcomeNumbers (FrameRoom used) = 6 ∷ used ∷ []
 outcomeNumbers (RegisterRoom used) = 7 ∷ used ∷ []
 
 -- ---- how a run ended
--- the value that a register word holds. A word that holds none counts as Unit; registers start as Unit, and what is computed from
--- values is a value again (operate/proofs/Values)
+-- the value that a register word holds. A word that holds none counts as Unit; no execution of a well-formed image hands one back
+-- (assurance/proofs/Values: value-returned)
 unfoldable pub valueIn : WordFound → CoreValue
 valueIn (Value v) = v
 valueIn NoValue = Unit
