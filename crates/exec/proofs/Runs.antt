@@ -16,7 +16,7 @@ use Rattle.exec.specs.declared.Step.{Step}
 use Rattle.exec.specs.declared.Step.the-variants.{Go, Ends}
 use Rattle.exec.specs.Price.{Price, Fair, unit}
 use Rattle.exec.specs.Lent.{State, state, topAt}
-use Rattle.exec.specs.Step.{stepped, nextInstr, step, isPast}
+use Rattle.exec.specs.Step.{stepped, nextInstr, step, isPast, Inside}
 use Rattle.exec.specs.Run.{Final, final, later, onward, costAt, runFor, run}
 use Rattle.exec.specs.Burst.{Good}
 
@@ -38,9 +38,6 @@ onward-later c (Ends e) fr rg k = rw add-zero
 pub onward-same : (c : ℕ) (x : Step) (fr rg : List ℕ) (k l : State → Final) → ((t : State) → k t ≡ l t) → onward c x fr rg k ≡ onward c x fr rg l
 onward-same c (Go d) fr rg k l h = ap (later c) (h (state fr rg d))
 onward-same c (Ends e) fr rg k l h = refl
-
-abbrev pub Inside : Program → State → Type 0
-Inside p s = topAt p s .place < lengthOf p (topAt p s .function)
 
 -- one round, by its tests
 module _ (p : Program) (price : Price) (most : ℕ) where

@@ -26,12 +26,12 @@ use Rattle.exec.specs.declared.Step.{Step}
 use Rattle.exec.specs.declared.Step.the-variants.{Go, Ends}
 use Rattle.exec.specs.Price.{Price, Fair}
 use Rattle.exec.specs.Lent.{part, State, state, topOf, topAt}
-use Rattle.exec.specs.Step.{Stepped, goes, stops, moved, landed, left, acted, step, nextInstr}
+use Rattle.exec.specs.Step.{Stepped, goes, stops, moved, landed, left, acted, step, nextInstr, Inside}
 use Rattle.exec.specs.Run.{Final, final, later, costAt, runFor, run}
 use Rattle.exec.specs.Burst.{Halted, halted, further, burst, stretch, Ready}
 use Rattle.exec.proofs.Parts.{length-part, part-put, put-put, put-part}
 use Rattle.exec.proofs.Bursts.{burst-past, burst-dry, burst-step}
-use Rattle.exec.proofs.Runs.{Inside, afterCharge, for-past, for-dry, for-step, enough, onward-later, onward-same, later-later}
+use Rattle.exec.proofs.Runs.{afterCharge, for-past, for-dry, for-step, enough, onward-later, onward-same, later-later}
 
 -- ---- what is known where a burst stops
 -- at an instruction that leaves: it is there, and it was charged

@@ -1,5 +1,5 @@
 -- One step of the machine: the running frame's instruction acts. Nothing here knows of fuel.
-use Prim.Native.Nat.{ℕ, _+_, _*_, _-_}
+use Prim.Native.Nat.{ℕ, _+_, _*_, _-_, _<_}
 use mathlib.Core.Bool.{Bool, _&&_, _||_}
 use mathlib.Core.List.{List, _++_}
 use lib.Dec.{ltb, leb, eqb}
@@ -124,6 +124,10 @@ step p most s = acted p most s (topAt p s) (nextInstr p s)
 -- the running frame has run past its function's end
 abbrev pub isPast : Program → State → Bool
 isPast p s = leb (lengthOf p (topAt p s .function)) (topAt p s .place)
+
+-- it is at an instruction
+abbrev pub Inside : Program → State → Type 0
+Inside p s = topAt p s .place < lengthOf p (topAt p s .function)
 
 -- record k is whole, its function exists, and its registers are among the n lent ones
 unfoldable pub standsAt : Program → List ℕ → ℕ → ℕ → Bool

@@ -1,0 +1,2 @@
+pub mod Roomy
+pub mod Enough

@@ -1,0 +1,4 @@
+pub mod Agrees
+pub mod Steps
+pub mod Runs
+pub mod Entries

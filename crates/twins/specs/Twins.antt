@@ -1,0 +1,57 @@
+-- One program run twice, in lent memory of other contents and other sizes.
+use Prim.Native.Nat.{ℕ, _+_, _*_, _-_, _≤_, _<_}
+use mathlib.Core.Path.{_≡_}
+use mathlib.Core.List.{List}
+use lib.ListN.{length, getD}
+use Rattle.image.specs.Program.{Program}
+use Rattle.image.specs.Parts.{regsOf}
+use Rattle.exec.specs.Price.{Price}
+use Rattle.exec.specs.Lent.{frameWords, functionWord, firstWord, State, state}
+use Rattle.exec.specs.Run.{Final, later, costAt, run}
+use Rattle.exec.specs.Execute.{entryState}
+use Rattle.course.specs.Course.{after, Leads, charged}
+
+-- the first n words are there twice, and the same
+pub record Agree (n : ℕ) (xs ys : List ℕ) : Type 0 where
+  pub left : n ≤ length xs
+  pub right : n ≤ length ys
+  pub words : (j : ℕ) → j < n → getD xs j 0 ≡ getD ys j 0
+
+-- two machines at one point of a program: they have as many frames, and the first k words of frames and m words of registers agree,
+-- among them all records and all registers of these frames
+pub record Alike (p : Program) (k m : ℕ) (s t : State) : Type 0 where
+  pub depth : t .depth ≡ s .depth
+  pub some : 1 ≤ s .depth
+  pub frames : Agree k (s .frames) (t .frames)
+  pub regs : Agree m (s .regs) (t .regs)
+  pub records : frameWords * s .depth ≤ k
+  pub windows : (j : ℕ) → j < s .depth → firstWord (s .frames) j + regsOf p (functionWord (s .frames) j) ≤ m
+
+-- two runs that ended in the same way and with the same fuel used; the first k words of frames and m of registers agree
+pub record SameEnd (k m : ℕ) (f g : Final) : Type 0 where
+  pub what : g .what ≡ f .what
+  pub used : g .used ≡ f .used
+  pub frames : Agree k (f .frames) (g .frames)
+  pub regs : Agree m (f .regs) (g .regs)
+
+-- the run f from s, refused for room, is the run g from t up to the refused push: as many steps lead to states that are alike, the
+-- lent words of f are those there, and its fuel used is what g has used there, with the Call that f was refused for
+pub record UpTo (p : Program) (price : Price) (most fuel k m : ℕ) (s t : State) (f g : Final) : Type 0 where
+  pub steps : ℕ
+  pub leads : Leads p most steps t
+  pub frameWordsAlike : ℕ
+  pub regWordsAlike : ℕ
+  pub moreFrames : k ≤ frameWordsAlike
+  pub moreRegs : m ≤ regWordsAlike
+  pub alike : Alike p frameWordsAlike regWordsAlike (after p most steps s) (after p most steps t)
+  pub frames : f .frames ≡ after p most steps s .frames
+  pub regs : f .regs ≡ after p most steps s .regs
+  pub used : f .used ≡ charged p price most steps t + costAt p price (after p most steps t)
+  pub goesOn : g ≡ later (charged p price most steps t) (run p price most (fuel - charged p price most steps t) (after p most steps t))
+
+-- an execution that was refused for room, f with the lent words fr and rg, beside one that was not, g with fr′ and rg′
+pub data Refusal (p : Program) (price : Price) (most fuel k m : ℕ) (fr rg fr′ rg′ : List ℕ) (f g : Final) : Type 0 where
+  -- for the entry frame: nothing was written, and no fuel used
+  atEntry : f .used ≡ 0 → f .frames ≡ fr → f .regs ≡ rg → Refusal p price most fuel k m fr rg fr′ rg′ f g
+  -- at a Call
+  atCall : UpTo p price most fuel k m (entryState p fr rg) (entryState p fr′ rg′) f g → Refusal p price most fuel k m fr rg fr′ rg′ f g
