@@ -1,3 +1,1 @@
 pub mod Edges
-pub mod Loads
-pub mod Values

@@ -5,3 +5,4 @@ pub mod Courses
 pub mod Traps
 pub mod Along
 pub mod Fuel
+pub mod Counts

@@ -12,6 +12,3 @@ pub mod Charged
 pub mod Standing
 pub mod Entry
 pub mod Whole
-pub mod Counts
-pub mod Unique
-pub mod Values

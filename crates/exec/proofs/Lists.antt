@@ -20,6 +20,10 @@ pub getD-sets-below : (l : List ℕ) (d j : ℕ) (vs : List ℕ) → j < d → g
 getD-sets-below l d j [] h = refl
 getD-sets-below l d j (a ∷ vs) h = getD-sets-below (set l d a) (suc d) j vs (omega arith) ∙ getD-set-other l d j a 0 (λ e. omega arith)
 
+pub getD-sets-above : (l : List ℕ) (d j : ℕ) (vs : List ℕ) → d + length vs ≤ j → getD (sets l d vs) j 0 ≡ getD l j 0
+getD-sets-above l d j [] h = refl
+getD-sets-above l d j (a ∷ vs) h = getD-sets-above (set l d a) (suc d) j vs (omega arith) ∙ getD-set-other l d j a 0 (λ e. omega arith)
+
 -- one more word copied from s to d
 pub copy-more : (l : List ℕ) (s d i : ℕ) → s + i < d → d + i < length l
     → set (sets l d (take i (drop s l))) (d + i) (getD (sets l d (take i (drop s l))) (s + i) 0) ≡ sets l d (take (i + 1) (drop s l))

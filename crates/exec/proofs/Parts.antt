@@ -1,10 +1,10 @@
 -- Laws of a part of a list and of what stands once it is put back: what a window lent out of the registers needs. Assumes nothing.
 use Prim.Native.Nat.{ℕ, _+_, _-_, _≤_, _<_}
-use mathlib.Core.Path.{_≡_, sym, ap, _∙_}
+use mathlib.Core.Path.{_≡_, sym, ap, _∙_, subst}
 use mathlib.Core.List.{List, _++_}
 use native.Mathlib.Omega.{arith}
 use lib.ListN.{length, getD, set, take, drop, length-append, length-drop, take-append-drop, List·getD-append}
-use lib.Seq.{length-take-le, take-at, drop-at, getD-take, getD-drop, take-set-le, drop-set-add, take-set-lt, drop-set-lt}
+use lib.Seq.{length-take-le, take-at, drop-at, getD-append-add, getD-take, getD-drop, take-set-le, drop-set-add, take-set-lt, drop-set-lt}
 use Rattle.exec.specs.Lent.{part, put}
 
 -- as the code lends it: from lo to lo + k
@@ -60,3 +60,10 @@ module _ (xs : List ℕ) (a k : ℕ) (fits : a + k ≤ length xs) where
       sym (getD-drop a (put xs a k ys) j 0)
       ∙ ap (λ (l : List ℕ). getD l j 0) (drop-at (take a xs) (ys ++ drop k (drop a xs)) a front)
       ∙ List·getD-append ys (drop k (drop a xs)) 0 j (rw e h)
+
+  pub put-high : (ys : List ℕ) (r : ℕ) → length ys ≡ k → getD (put xs a k ys) (a + (k + r)) 0 ≡ getD xs (a + (k + r)) 0
+  put-high ys r e =
+      subst (λ (m : ℕ). getD (put xs a k ys) (m + (k + r)) 0 ≡ getD (ys ++ drop k (drop a xs)) (k + r) 0) front (getD-append-add (take a xs) (ys ++ drop k (drop a xs)) (k + r) 0)
+      ∙ subst (λ (m : ℕ). getD (ys ++ drop k (drop a xs)) (m + r) 0 ≡ getD (drop k (drop a xs)) r 0) e (getD-append-add ys (drop k (drop a xs)) r 0)
+      ∙ getD-drop k (drop a xs) r 0
+      ∙ getD-drop a xs (k + r) 0

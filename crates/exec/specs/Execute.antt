@@ -45,7 +45,7 @@ outcomeNumbers (RegisterRoom used) = 7 ∷ used ∷ []
 
 -- ---- how a run ended
 -- the value that a register word holds. A word that holds none counts as Unit; no execution of a well-formed image hands one back
--- (assurance/proofs/Values: value-returned)
+-- (safety/proofs/WellFormed: value-returned)
 unfoldable pub valueIn : WordFound → CoreValue
 valueIn (Value v) = v
 valueIn NoValue = Unit

@@ -1,2 +1,5 @@
 pub mod Linked
 pub mod Accepted
+pub mod Loads
+pub mod Values
+pub mod WellFormed

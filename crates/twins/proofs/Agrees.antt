@@ -10,7 +10,7 @@ use lib.ListN.{length, getD, set, take, drop, length-set}
 use lib.Seq.{sets, getD-set-same, getD-set-other, getD-append-add, getD-take, getD-drop, length-take-le, length-sets, ext-getD}
 use borrow.Author.Tests.{ltb-true, ltb-false, leb-true, leb-false, eqb-true, eqb-false}
 use Rattle.exec.specs.Lent.{part, put}
-use Rattle.exec.proofs.Parts.{length-part, length-put, getD-part, put-low, put-in}
+use Rattle.exec.proofs.Parts.{length-part, length-put, getD-part, put-low, put-in, put-high}
 use Rattle.exec.proofs.Lists.{getD-sets-in}
 use Rattle.twins.specs.Twins.{Agree}
 
@@ -43,15 +43,6 @@ set-agrees n xs ys a v h l = record {
 }
 
 -- ---- a part put back
-module _ (xs : List ℕ) (a k : ℕ) (vs : List ℕ) (e : length vs ≡ k) (fits : a + k ≤ length xs) where
-  put-high : (r : ℕ) → getD (put xs a k vs) (a + (k + r)) 0 ≡ getD xs (a + (k + r)) 0
-  put-high r =
-      let f : length (take a xs) ≡ a = length-take-le a xs (omega arith) in
-      subst (λ (m : ℕ). getD (put xs a k vs) (m + (k + r)) 0 ≡ getD (vs ++ drop k (drop a xs)) (k + r) 0) f (getD-append-add (take a xs) (vs ++ drop k (drop a xs)) (k + r) 0)
-      ∙ subst (λ (m : ℕ). getD (vs ++ drop k (drop a xs)) (m + r) 0 ≡ getD (drop k (drop a xs)) r 0) e (getD-append-add vs (drop k (drop a xs)) r 0)
-      ∙ getD-drop k (drop a xs) r 0
-      ∙ getD-drop a xs (k + r) 0
-
 module _ (n : ℕ) (xs ys : List ℕ) (a k : ℕ) (vs : List ℕ) (h : Agree n xs ys) (e : length vs ≡ k) (fits : a + k ≤ n) where
   fits-left : a + k ≤ length xs
   fits-left = omega (arith, h .left)
@@ -74,7 +65,7 @@ module _ (n : ℕ) (xs ys : List ℕ) (a k : ℕ) (vs : List ℕ) (h : Agree n x
           let m : a + k ≤ j = ltb-false _ _ y in
           let z : a + (k + (j - a - k)) ≡ j = omega arith in
           subst (λ (i : ℕ). getD (put xs a k vs) i 0 ≡ getD (put ys a k vs) i 0) z
-          (put-high xs a k vs e fits-left (j - a - k) ∙ h .words (a + (k + (j - a - k))) (omega arith) ∙ sym (put-high ys a k vs e fits-right (j - a - k)))
+          (put-high xs a k fits-left vs (j - a - k) e ∙ h .words (a + (k + (j - a - k))) (omega arith) ∙ sym (put-high ys a k fits-right vs (j - a - k) e))
 
   pub put-agrees : Agree n (put xs a k vs) (put ys a k vs)
   put-agrees = record {

@@ -1,6 +1,6 @@
 -- What an execution of a well-formed image hands back is a value, whatever the fuel, the depth limit and the lent words. Assumes nothing.
 use Prim.Native.Nat.{ℕ, _+_, _<_}
-use mathlib.Core.Path.{_≡_, refl, ap}
+use mathlib.Core.Path.{_≡_, refl, ap, subst}
 use mathlib.Core.List.{List}
 use native.Mathlib.Omega.{arith}
 use native.Mathlib.Nat.{not-suc-le-zero}
@@ -17,10 +17,10 @@ use Rattle.image.specs.Parts.{lengthOf, codeOf}
 use Rattle.image.proofs.Parts.{function-out, inside}
 use Rattle.image.proofs.Numbers.{length-in, code-in}
 use Rattle.exec.specs.declared.Ending.the-variants.{Returned}
-use Rattle.exec.specs.Price.{Price}
+use Rattle.exec.specs.Price.{Price, Fair}
 use Rattle.exec.specs.Execute.{entered}
-use Rattle.exec.proofs.Values.{LoadsValues, returns-value}
-use Rattle.assurance.proofs.Loads.{lawful-loads}
+use Rattle.safety.proofs.Loads.{lawful-loads}
+use Rattle.safety.proofs.Values.{LoadsValues, EndsValued, returns-value}
 
 module _ (L : RecordLayout) (s : List ℕ) (W : WellFormed L s) where
   loads-values : LoadsValues (decode L s)
@@ -35,5 +35,5 @@ module _ (L : RecordLayout) (s : List ℕ) (W : WellFormed L s) where
           let none : lengthOf (decode L s) k ≡ 0 = ap (λ (f : Function). length (f .code)) (function-out L s k (ltb-false _ _ e)) in
           absurd (not-suc-le-zero (rw none at l))
 
-  pub value-returned : (price : Price) (most fuel : ℕ) (fr rg : List ℕ) (v : ℕ) → entered (decode L s) price most fuel fr rg .what ≡ Returned v → HoldsValue v
-  value-returned price most fuel fr rg v e = returns-value (decode L s) price most loads-values fuel fr rg v e
+  pub value-returned : (price : Price) → Fair price → (most fuel : ℕ) (fr rg : List ℕ) (v : ℕ) → entered (decode L s) price most fuel fr rg .what ≡ Returned v → HoldsValue v
+  value-returned price fair most fuel fr rg v e = subst EndsValued e (returns-value (decode L s) price fair most fuel loads-values fr rg)

@@ -1,4 +1,4 @@
--- Just one answer, and one content of the lent words, meets the promise of each public function. Assumes nothing.
+-- The way back from the paper's numbers to outcomes: one outcome only has each list of them. Assumes nothing.
 use Prim.Native.Nat.{ℕ, _+_, _-_}
 use mathlib.Core.Path.{_≡_, refl, sym, ap, _∙_}
 use mathlib.Core.Bool.{Bool}
@@ -18,15 +18,13 @@ use Rattle.value.specs.Result.{statusWord}
 use Rattle.value.proofs.Words as words
 use Rattle.image.specs.declared.ImageFault.the-variants.{Short, Form, Layout, FunctionTable, Instruction}
 use Rattle.image.proofs.Unique.{faultOf}
-use Rattle.exec.specs.declared.StepFound.{StepFound}
 use Rattle.exec.specs.declared.CoreOutcome.{CoreOutcome}
 use Rattle.exec.specs.declared.CoreOutcome.the-variants.{Done, Image, FrameRoom, RegisterRoom}
 use Rattle.exec.specs.declared.CoreExecution.{CoreExecution}
 use Rattle.exec.specs.declared.CoreExecution.the-variants as settling
-use Rattle.exec.specs.Step.{Found, found}
-use Rattle.exec.specs.Execute.{outcomeNumbers, valueIn, Executed, executed, executionNumbers}
+use Rattle.exec.specs.Execute.{outcomeNumbers, valueIn, executionNumbers}
 
--- ---- the way back from numbers
+-- ---- traps, statuses, results
 trapAt : ℕ → CoreTrap
 trapAt n =
     let is : ℕ → Bool = λ k. eqb n k in
@@ -112,16 +110,6 @@ outcome-back (RegisterRoom used) h = refl
 pub outcome-unique : (a b : CoreOutcome) → HeldOutcome a → HeldOutcome b → outcomeNumbers a ≡ outcomeNumbers b → a ≡ b
 outcome-unique a b h k e = sym (outcome-back a h) ∙ ap outcomeAt e ∙ outcome-back b k
 
--- ---- one for each function
-pub one-step : (f : Found) (a b : StepFound) (fr rg fr′ rg′ : List ℕ) → found a fr rg ≡ f → found b fr′ rg′ ≡ f → (a ≡ b) × (fr ≡ fr′) × (rg ≡ rg′)
-one-step f a b fr rg fr′ rg′ p q = let e = p ∙ sym q in (ap (λ (x : Found). x .answer) e, ap (λ (x : Found). x .frames) e, ap (λ (x : Found). x .regs) e)
-
-pub one-outcome : (x : Executed) (a b : CoreOutcome) (fr rg fr′ rg′ : List ℕ) → HeldOutcome a → HeldOutcome b
-    → executed (outcomeNumbers a) fr rg ≡ x → executed (outcomeNumbers b) fr′ rg′ ≡ x → (a ≡ b) × (fr ≡ fr′) × (rg ≡ rg′)
-one-outcome x a b fr rg fr′ rg′ h k p q =
-    let e = p ∙ sym q in
-    (outcome-unique a b h k (ap (λ (y : Executed). y .answer) e), ap (λ (y : Executed). y .frames) e, ap (λ (y : Executed). y .regs) e)
-
 -- `execute` the same; a trap has two numbers, a result five
 executionAt : List ℕ → CoreExecution
 executionAt ns =
@@ -148,9 +136,5 @@ execution-back (settling.Image (Instruction k)) h = refl
 execution-back (settling.FrameRoom used) h = refl
 execution-back (settling.RegisterRoom used) h = refl
 
-pub one-execution : (x : Executed) (a b : CoreExecution) (fr rg fr′ rg′ : List ℕ) → HeldExecution a → HeldExecution b
-    → executed (executionNumbers a) fr rg ≡ x → executed (executionNumbers b) fr′ rg′ ≡ x → (a ≡ b) × (fr ≡ fr′) × (rg ≡ rg′)
-one-execution x a b fr rg fr′ rg′ h k p q =
-    let e = p ∙ sym q in
-    let n = ap (λ (y : Executed). y .answer) e in
-    (sym (execution-back a h) ∙ ap executionAt n ∙ execution-back b k, ap (λ (y : Executed). y .frames) e, ap (λ (y : Executed). y .regs) e)
+pub execution-unique : (a b : CoreExecution) → HeldExecution a → HeldExecution b → executionNumbers a ≡ executionNumbers b → a ≡ b
+execution-unique a b h k e = sym (execution-back a h) ∙ ap executionAt e ∙ execution-back b k

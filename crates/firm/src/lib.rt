@@ -1,0 +1,1 @@
+// How firm the contracts are. Theorems, without code: specs/ has the statements, proofs/ their proofs.
