@@ -19,17 +19,21 @@ use Rattle.exec.specs.declared.Ending.{Ending}
 use Rattle.exec.specs.declared.Ending.the-variants.{Returned, Trapped, FrameRoom, RegisterRoom}
 use Rattle.exec.specs.declared.Step.{Step}
 use Rattle.exec.specs.declared.Step.the-variants.{Go, Ends}
-use Rattle.exec.specs.Price.{Price, Fair}
+use Rattle.exec.specs.Price.{Price, Fair, unit}
 use Rattle.exec.specs.Lent.{State, state}
 use Rattle.exec.specs.Step.{Stepped, stops, nextInstr, step, isPast, Inside}
 use Rattle.exec.specs.Run.{Final, costAt, run}
 use Rattle.exec.specs.Begun.{begunAfter, begunFor, begun}
-use Rattle.course.specs.Course.{ahead, next, after, trail, charged, Stop, Course}
+use Rattle.exec.specs.Execute.{entryState, entered}
+use Rattle.exec.proofs.Runs.{unit-fair}
+use Rattle.course.specs.Course.{ahead, next, after, trail, charged, Stop, Course, begunIn, Fuelled}
 use Rattle.course.specs.Course.Stop.{past, dry, acts}
 use Rattle.course.proofs.Cases.{step-cases, wentAt, window}
 use Rattle.course.proofs.Courses.{endCode, run-course}
 use Rattle.course.proofs.Traps.{Own, Misses, OwnWay, straight-own}
 use Rattle.course.proofs.Along.{Keeps}
+use Rattle.course.proofs.Counts.{used-begun}
+use Rattle.course.proofs.Entered.{begun-cases}
 
 -- ---- neither InvalidPc nor FuelExceeded comes out of a step
 abbrev pub OfStep : Ending → Type 0
@@ -132,3 +136,16 @@ module _ (p : Program) (price : Price) (most : ℕ) where
 
   pub begun-steps : (fuel : ℕ) (s : State) → begun p price most fuel s ≡ trail p most (length (begun p price most fuel s)) s
   begun-steps fuel s = for-trail fuel fuel s
+
+-- ---- an execution
+pub fuelled : (p : Program) (most fuel : ℕ) (fr rg : List ℕ) → Fuelled p most fuel fr rg (entered p unit most fuel fr rg) (begunIn p unit most fuel fr rg)
+unfolding trail
+fuelled p most fuel fr rg =
+    begun-cases p unit most fuel fr rg (Fuelled p most fuel fr rg)
+    (λ e no. record { within = omega arith; whole = λ q. absurd (no q); counts = refl; steps = refl })
+    (record {
+      within = never-above p unit unit-fair most fuel (entryState p fr rg);
+      whole = whole-limit p unit unit-fair most fuel (entryState p fr rg);
+      counts = used-begun p most fuel (entryState p fr rg);
+      steps = begun-steps p unit most fuel (entryState p fr rg);
+    })

@@ -2,17 +2,22 @@
 use Prim.Native.Nat.{ℕ, zero, suc, _+_, _-_, _≤_, _<_}
 use mathlib.Core.Path.{_≡_}
 use mathlib.Core.List.{List, [], _∷_}
+use lib.Dec.{ltb, leb}
+use lib.ListN.{length}
+use Rattle.basis.specs.Choice.{pick}
 use Rattle.runtime.specs.declared.CoreTrap.the-variants.{InvalidPc, FuelExceeded}
 use Rattle.image.specs.Program.{Program}
-use Rattle.image.specs.Parts.{lengthOf}
+use Rattle.image.specs.Parts.{functionsOf, regsOf, lengthOf}
 use Rattle.exec.specs.declared.Ending.{Ending}
 use Rattle.exec.specs.declared.Ending.the-variants.{Returned, Trapped, FrameRoom, RegisterRoom}
 use Rattle.exec.specs.declared.Step.{Step}
 use Rattle.exec.specs.declared.Step.the-variants.{Go, Ends}
 use Rattle.exec.specs.Price.{Price}
-use Rattle.exec.specs.Lent.{State, state, topAt}
+use Rattle.exec.specs.Lent.{frameWords, State, state, topAt}
 use Rattle.exec.specs.Step.{stops, step, Inside}
 use Rattle.exec.specs.Run.{Final, costAt}
+use Rattle.exec.specs.Begun.{begun}
+use Rattle.exec.specs.Execute.{entryState}
 
 -- ---- steps one after another
 -- a step leads to what it leaves, if it goes on, and nowhere else if it ends the run
@@ -73,3 +78,19 @@ pub record Course (p : Program) (price : Price) (most fuel : ℕ) (s : State) (f
   pub used : f .used ≡ charged p price most steps s + last
   pub frames : f .frames ≡ after p most steps s .frames
   pub regs : f .regs ≡ after p most steps s .regs
+
+-- ---- the instructions that an execution begins: those of its run, where its entry frame is made
+unfoldable pub begunIn : Program → Price → ℕ → ℕ → List ℕ → List ℕ → List State
+begunIn p price most fuel fr rg =
+    pick (leb (functionsOf p) (p .entry)) []
+    (pick (ltb (length fr) frameWords) []
+    (pick (ltb (length rg) (regsOf p (p .entry))) []
+    (begun p price most fuel (entryState p fr rg))))
+
+-- the fuel that an execution uses is never above the limit, is the whole limit on FuelExceeded, and counts the instructions begun,
+-- which are steps from the entry frame on
+pub record Fuelled (p : Program) (most fuel : ℕ) (fr rg : List ℕ) (f : Final) (begins : List State) : Type 0 where
+  pub within : f .used ≤ fuel
+  pub whole : f .what ≡ Trapped FuelExceeded → f .used ≡ fuel
+  pub counts : f .used ≡ length begins
+  pub steps : begins ≡ trail p most (length begins) (entryState p fr rg)

@@ -10,6 +10,7 @@ use Rattle.basis.specs.Choice.{pick}
 use Rattle.runtime.specs.declared.CoreTrap.{CoreTrap}
 use Rattle.runtime.specs.declared.CoreTrap.the-variants.{InvalidPc, InvalidRegister, TypeMismatch, DivisionByZero, IntegerOverflow, FuelExceeded, CallDepthExceeded, InvalidFunction, AssertFailed, ExplicitTrap}
 use Rattle.runtime.specs.Trap.{trapCode}
+use Rattle.runtime.proofs.Unique.{trapAt, trap-back}
 use Rattle.value.specs.declared.result.CoreStatus.{CoreStatus}
 use Rattle.value.specs.declared.result.CoreStatus.the-variants.{Returned, Trapped}
 use Rattle.value.specs.declared.result.CoreResult.{CoreResult}
@@ -25,32 +26,6 @@ use Rattle.exec.specs.declared.CoreExecution.the-variants as settling
 use Rattle.exec.specs.Execute.{outcomeNumbers, valueIn, executionNumbers}
 
 -- ---- traps, statuses, results
-trapAt : ℕ → CoreTrap
-trapAt n =
-    let is : ℕ → Bool = λ k. eqb n k in
-    pick (is 0) InvalidPc
-    (pick (is 1) InvalidRegister
-    (pick (is 2) TypeMismatch
-    (pick (is 3) DivisionByZero
-    (pick (is 4) IntegerOverflow
-    (pick (is 5) FuelExceeded
-    (pick (is 6) CallDepthExceeded
-    (pick (is 7) InvalidFunction
-    (pick (is 8) AssertFailed ExplicitTrap))))))))
-
-trap-back : (t : CoreTrap) → trapAt (trapCode t) ≡ t
-unfolding trapAt
-trap-back InvalidPc = refl
-trap-back InvalidRegister = refl
-trap-back TypeMismatch = refl
-trap-back DivisionByZero = refl
-trap-back IntegerOverflow = refl
-trap-back FuelExceeded = refl
-trap-back CallDepthExceeded = refl
-trap-back InvalidFunction = refl
-trap-back AssertFailed = refl
-trap-back ExplicitTrap = refl
-
 statusAt : ℕ → CoreStatus
 statusAt n = pick (eqb n 0) Returned (Trapped (trapAt (n - 1)))
 
