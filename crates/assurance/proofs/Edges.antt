@@ -14,11 +14,11 @@ use Rattle.value.specs.Value.{valueAt}
 use Rattle.straight.specs.Flow.{flowOf}
 use Rattle.straight.specs.Straight.{storing, asked, stored, done, straight}
 use Rattle.exec.specs.Price.{unit}
-use Rattle.exec.specs.Step.{tooDeep, called, handed, returned, left, acted, step}
+use Rattle.exec.specs.Step.{tooDeep, windowFits, pushedFrames, pushedRegs, called, handed, returned, left, acted, step}
 use Rattle.exec.specs.Run.{runFor}
 use Rattle.exec.specs.Execute.{valueIn, entered, execution}
 use Rattle.assurance.specs.Edges.{Holds, Each, edges}
 
 pub edges-hold : Each edges
-unfolding Holds Each edges rules ruleOf readAs readTwo readDividing readShortcut computed firstOf profileFault forms fieldsOf registerFault jumpFault callFault windowFault fieldFault fieldsFault instrFault returnsBefore codeFault functionFault programFault byteAt halfAt wordAt headerOf functionAt form1Instr startOf layoutHolds rowFault tableFault within recordHolds recordFault imageFault listed functionOf decode verdict valueAt flowOf storing asked stored done straight unit tooDeep called handed returned left acted step runFor valueIn entered execution
-edges-hold = (refl, (refl, (refl, (refl, (refl, (refl, (refl, (refl, (refl, (refl, (refl, (refl, (refl, ((refl, refl), ((refl, refl), ((refl, refl), (refl, tt)))))))))))))))))
+unfolding Holds Each edges rules ruleOf readAs readTwo readDividing readShortcut computed firstOf profileFault forms fieldsOf registerFault jumpFault callFault windowFault fieldFault fieldsFault instrFault returnsBefore codeFault functionFault programFault byteAt halfAt wordAt headerOf functionAt form1Instr startOf layoutHolds rowFault tableFault within recordHolds recordFault imageFault listed functionOf decode verdict valueAt flowOf storing asked stored done straight unit tooDeep called handed returned left acted step runFor valueIn entered execution windowFits pushedFrames pushedRegs
+edges-hold = (refl, (refl, (refl, (refl, (refl, (refl, (refl, (refl, (refl, (refl, (refl, (refl, (refl, ((refl, refl), ((refl, refl), ((refl, refl), (refl, ((refl, refl), ((refl, refl), ((refl, refl), ((refl, refl), ((refl, refl), ((refl, refl), ((refl, (refl, refl)), ((refl, (refl, refl)), ((refl, (refl, refl)), ((refl, (refl, refl)), ((refl, (refl, refl)), ((refl, (refl, refl)), ((refl, (refl, refl)), tt))))))))))))))))))))))))))))))

@@ -1,11 +1,13 @@
--- The worked cases that document 01 marks P, one row for each, and its own image.
+-- The worked cases that document 01 marks P, one row for each, and its own image; both sides of enough room; and for each rule of
+-- admission a program that breaks it alone and meets what the rule is there to rule out.
 use Prim.Native.Nat.{ℕ, _^_}
 use mathlib.Core.Path.{_≡_}
 use mathlib.Core.List.{List, [], _∷_}
 use lib.IntN.{ℤ, pos, negℤ}
 use lib.ListN.{replicate}
 use Rattle.runtime.specs.Profile.{safeProfile}
-use Rattle.runtime.specs.declared.CoreTrap.the-variants.{InvalidPc, TypeMismatch, DivisionByZero, IntegerOverflow, FuelExceeded, CallDepthExceeded}
+use Rattle.runtime.specs.declared.CoreTrap.the-variants.{InvalidPc, TypeMismatch, DivisionByZero, IntegerOverflow, FuelExceeded, CallDepthExceeded, InvalidFunction}
+use Rattle.runtime.specs.declared.CoreTrap.the-variants as trap
 use Rattle.value.specs.Checked.{payload}
 use Rattle.value.specs.Value.{boolKind, i32Kind, fxKind, register}
 use Rattle.instr.specs.declared.Instr.{Instr}
@@ -13,12 +15,12 @@ use Rattle.image.specs.Records.{form1}
 use Rattle.image.specs.Program.{Program, noInstr}
 use Rattle.admission.specs.Verdict.{verdictNumbers, programFault, verdict}
 use Rattle.admission.specs.declared.CoreValidation.{CoreValidation}
-use Rattle.admission.specs.declared.CoreValidation.the-variants.{Admitted, InvalidRegister, MissingReturn, InvalidArgWindow}
+use Rattle.admission.specs.declared.CoreValidation.the-variants.{Admitted, InvalidEntry, InvalidRegister, InvalidJump, InvalidCall, MissingReturn, InvalidArgWindow}
 use Rattle.operate.specs.declared.Outcome.{Outcome}
 use Rattle.operate.specs.declared.Outcome.the-variants.{Value, Trap}
 use Rattle.operate.specs.Operate.{operated}
 use Rattle.exec.specs.declared.Ending.{Ending}
-use Rattle.exec.specs.declared.Ending.the-variants.{Trapped}
+use Rattle.exec.specs.declared.Ending.the-variants.{Trapped, FrameRoom, RegisterRoom}
 use Rattle.exec.specs.Price.{unit}
 use Rattle.exec.specs.Config.{defaultConfig}
 use Rattle.exec.specs.Execute.{entered}
@@ -67,9 +69,35 @@ CallItself dst base = record { op = 54; small = 0; a = dst; b = 0; c = base; w =
 abbrev pub CallOf : ℕ → Instr
 CallOf function = record { op = 54; small = 0; a = 0; b = function; c = 0; w = 0 }
 
+-- a Call of itself with one argument, register `base`
+abbrev pub CallWith : ℕ → Instr
+CallWith base = record { op = 54; small = 0; a = 0; b = 0; c = base; w = 1 }
+
+abbrev pub JumpTo : ℕ → Instr
+JumpTo place = record { op = 51; small = 0; a = 0; b = 0; c = 0; w = place }
+
 -- a program of one function
 abbrev pub alone : ℕ → List Instr → Program
 alone regs code = record { entry = 0; functions = record { name = 0; regs = regs; code = code } ∷ [] }
+
+-- one that calls itself as deep as it may
+abbrev pub descent : Program
+descent = alone 1 (CallOf 0 ∷ Ret 0 ∷ [])
+
+-- one whose entry wants the result of function 1 in a register that it does not have
+abbrev pub nowhere : Program
+nowhere =
+    record {
+      entry = 0;
+      functions =
+          record { name = 0; regs = 1; code = record { op = 54; small = 0; a = 5; b = 1; c = 0; w = 0 } ∷ Ret 0 ∷ [] }
+          ∷ record { name = 1; regs = 1; code = Ret 0 ∷ [] }
+          ∷ [];
+    }
+
+-- one whose entry is not there
+abbrev pub headless : Program
+headless = record { entry = 1; functions = record { name = 0; regs = 1; code = Ret 0 ∷ [] } ∷ [] }
 
 -- the image that document 01 writes out: one function of one register, which loads -1 and returns it
 abbrev pub documentImage : List ℕ
@@ -89,6 +117,10 @@ pub data Edge : Type 0 where
   image : List ℕ → CoreValidation → Edge
   -- a program under this depth limit and with this fuel ends so, having used this much
   running : Program → ℕ → ℕ → Ending → ℕ → Edge
+  -- under this depth limit, with so many lent words of frames and of registers, it ends so, having used this much
+  lending : Program → ℕ → ℕ → ℕ → Ending → ℕ → Edge
+  -- a program that breaks one rule of admission has this verdict under the safe profile; run all the same, it ends so
+  breaking : Program → CoreValidation → Ending → ℕ → Edge
   -- these bytes under the default configuration are answered with these numbers
   execution : List ℕ → List ℕ → Edge
 
@@ -107,6 +139,12 @@ Holds (image bytes answer) = verdict form1 bytes safeProfile ≡ verdictNumbers 
 Holds (running p most fuel what used) =
     let end = entered p unit most fuel frameRoom registerRoom in
     (end .what ≡ what) × (end .used ≡ used)
+Holds (lending p most frames regs what used) =
+    let end = entered p unit most 9 (replicate frames 77) (replicate regs 77) in
+    (end .what ≡ what) × (end .used ≡ used)
+Holds (breaking p fault what used) =
+    let end = entered p unit 64 9 (replicate 8 77) registerRoom in
+    (programFault safeProfile p ≡ verdictNumbers fault) × ((end .what ≡ what) × (end .used ≡ used))
 Holds (execution bytes answer) =
     executing.execution form1 unit bytes (defaultConfig .«max_call_depth») (defaultConfig .fuel) frameRoom registerRoom .answer ≡ answer
 
@@ -129,6 +167,19 @@ edges =
     ∷ Edge.running (alone 1 (Nop ∷ [])) 64 0 (Trapped FuelExceeded) 0
     ∷ Edge.running (alone 1 (CallOf 9 ∷ [])) 0 5 (Trapped CallDepthExceeded) 1
     ∷ Edge.execution documentImage (0 ∷ 0 ∷ 3 ∷ 4294967295 ∷ 2 ∷ [])
+    ∷ Edge.lending descent 3 12 3 (Trapped CallDepthExceeded) 3
+    ∷ Edge.lending descent 3 11 3 FrameRoom 2
+    ∷ Edge.lending descent 3 12 2 RegisterRoom 2
+    ∷ Edge.lending descent 0 4 1 (Trapped CallDepthExceeded) 1
+    ∷ Edge.lending descent 0 3 1 FrameRoom 0
+    ∷ Edge.lending descent 0 4 0 RegisterRoom 0
+    ∷ Edge.breaking (alone 1 (Ret 1 ∷ [])) (InvalidRegister 0 1) (Trapped trap.InvalidRegister) 1
+    ∷ Edge.breaking (alone 1 (JumpTo 3 ∷ Ret 0 ∷ [])) (InvalidJump 0 3) (Trapped InvalidPc) 1
+    ∷ Edge.breaking (alone 1 (CallOf 9 ∷ Ret 0 ∷ [])) (InvalidCall 0 9) (Trapped InvalidFunction) 1
+    ∷ Edge.breaking (alone 1 (CallWith 1 ∷ Ret 0 ∷ [])) (InvalidArgWindow 0 1 1) (Trapped trap.InvalidRegister) 1
+    ∷ Edge.breaking nowhere (InvalidRegister 0 5) (Trapped trap.InvalidRegister) 2
+    ∷ Edge.breaking (alone 1 []) (MissingReturn 0) (Trapped InvalidPc) 0
+    ∷ Edge.breaking headless (InvalidEntry 1) (Trapped InvalidFunction) 0
     ∷ []
 
 -- every row of a list

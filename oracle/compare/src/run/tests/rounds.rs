@@ -1,6 +1,8 @@
 //! Engines whose rounds go wrong in one way.
 
+use oracle::verdict;
 use oracle::word::{word, FX};
+use semantic_core_runtime::CoreAdmissionProfile;
 
 use super::*;
 
@@ -180,27 +182,56 @@ fn a_rhs_that_is_always_read_is_found() {
     });
 }
 
+/// An engine that stores another result of this opcode on two fixed-point
+/// numbers, by their raw units.
+fn with_fixed_point(asked: Asked, opcode: u8, other: fn(i64, i64) -> i64) -> u64 {
+    playing(asked, |run| {
+        let operation = about_to(run, opcode);
+        let first = run.running().first as usize;
+        let at = |register: u16| first + usize::from(register);
+        let raw = operation.map(|record| {
+            [record.b, record.c].map(|register| {
+                let word = run.registers.get(at(register)).copied().unwrap_or(0);
+                i64::from(word as u32 as i32)
+            })
+        });
+        run.round()?;
+        if let (Some(record), Some([lhs, rhs])) = (operation, raw) {
+            run.registers[at(record.a)] = word(FX, other(lhs, rhs) as u32);
+        }
+        Ok(())
+    })
+}
+
 /// The product of a negative and a positive number is cut, and so one more
 /// than its floor.
 #[test]
 fn an_fx_mul_that_is_cut_is_found() {
+    differs(|asked| with_fixed_point(asked, 43, |lhs, rhs| lhs * rhs / 65_536));
+}
+
+/// The quotient of a negative and a positive number is its floor, and so one
+/// less than what is left of it toward zero.
+#[test]
+fn an_fx_div_that_is_floored_is_found() {
     differs(|asked| {
-        playing(asked, |run| {
-            let product = about_to(run, 43);
-            let first = run.running().first as usize;
-            let at = |register: u16| first + usize::from(register);
-            let raw = product.map(|record| {
-                [record.b, record.c].map(|register| {
-                    let word = run.registers.get(at(register)).copied().unwrap_or(0);
-                    i64::from(word as u32 as i32)
-                })
-            });
-            run.round()?;
-            if let (Some(record), Some([lhs, rhs])) = (product, raw) {
-                let cut = (lhs * rhs / 65_536) as u32;
-                run.registers[at(record.a)] = word(FX, cut);
-            }
-            Ok(())
+        with_fixed_point(asked, 44, |lhs, rhs| {
+            let (quotient, rest) = (lhs * 65_536 / rhs, lhs * 65_536 % rhs);
+            quotient - i64::from(rest != 0 && (rest < 0) != (rhs < 0))
         })
+    });
+}
+
+/// The flag of the default configuration says that a program is validated
+/// first; the Rust never looks at it.
+#[test]
+fn a_run_that_validates_first_is_found() {
+    differs(|asked| {
+        let verdict = verdict::of_image(asked.image, CoreAdmissionProfile::safe());
+        if verdict.number == 0 {
+            return right(asked);
+        }
+        *asked.answer = verdict.words;
+        verdict.number
     });
 }
