@@ -2,7 +2,7 @@
 use Prim.Native.Nat.{ℕ, _*_, _-_, _≤_, _<_}
 use mathlib.Core.Path.{_≡_, refl, subst}
 use mathlib.Core.List.{List}
-use native.Mathlib.Nat.{le-trans, le-max-left, mul-le-mul-right}
+use native.Mathlib.Nat.{mul-le-mul-right}
 use native.Mathlib.Omega.{arith}
 use lib.ListN.{length, replicate, length-set}
 use lib.Seq.{sets, length-sets}
@@ -41,7 +41,7 @@ module _ (p : Program) (price : Price) (fair : Fair price) (most fuel : ℕ) whe
   module _ (fr rg : List ℕ) (enough : Enough p most fr rg) where
     one : 1 ≤ records most
     unfolding records
-    one = le-max-left 1 most
+    one = omega arith
 
     entry-record : 4 ≤ length fr
     entry-record = omega (arith, one, enough .frames)
@@ -50,8 +50,7 @@ module _ (p : Program) (price : Price) (fair : Fair price) (most fuel : ℕ) whe
     unfolding words
     entry-words =
         let m : 1 * largest (p .functions) ≤ records most * largest (p .functions) = mul-le-mul-right (largest (p .functions)) one in
-        let w : records most * largest (p .functions) ≤ length rg = enough .regs in
-        omega (arith, regs-most p most (p .entry))
+        omega (arith, regs-most p most (p .entry), enough .regs)
 
     entry-roomy : p .entry < functionsOf p → Roomy p most (entryState p fr rg)
     entry-roomy known = record {

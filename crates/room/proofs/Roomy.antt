@@ -78,7 +78,7 @@ module _ (p : Program) (most : ℕ) where
     module _ (shallow : s .depth < most) where
       deeper : s .depth + 1 ≤ records most
       unfolding records
-      deeper = le-trans (omega arith) (le-max-right 1 most)
+      deeper = omega arith
 
       record-left : 4 * (s .depth + 1) ≤ length (s .frames)
       record-left = omega (arith, deeper, h .room .frames)
@@ -90,8 +90,7 @@ module _ (p : Program) (most : ℕ) where
           let m : suc (s .depth) * each ≡ s .depth * each + each = suc-mul (s .depth) each in
           let n : (s .depth + 1) * each ≤ records most * each = mul-le-mul-right each deeper in
           let o : suc (s .depth) * each ≤ records most * each = subst (λ (d : ℕ). d * each ≤ records most * each) e n in
-          let w : records most * each ≤ length (s .regs) = h .room .regs in
-          omega (arith, end-low, regs-most (nextInstr p s .b))
+          omega (arith, end-low, regs-most (nextInstr p s .b), h .room .regs)
 
     module _ (c : Calls p most s) where
       abbrev frames′ : List ℕ

@@ -117,12 +117,16 @@ module _ (p : Program) (k m : ℕ) (fr rg fr′ rg′ : List ℕ) (hf : Agree k 
             → UpTo p price most fuel k m (entryState p fr rg) (entryState p fr′ rg′) runFirst runSecond
         nearer u = record {
           steps = u .steps;
-          leads = u .leads;
-          frameWordsAlike = u .frameWordsAlike;
-          regWordsAlike = u .regWordsAlike;
-          moreFrames = omega (arith, u .moreFrames);
-          moreRegs = omega (arith, u .moreRegs);
-          alike = u .alike;
+          abreast = record {
+            first = u .abreast .first;
+            second = u .abreast .second;
+            charge = u .abreast .charge;
+            framesTo = u .abreast .framesTo;
+            regsTo = u .abreast .regsTo;
+            frames = omega (arith, u .abreast .frames);
+            regs = omega (arith, u .abreast .regs);
+            alike = u .abreast .alike;
+          };
           frames = u .frames;
           regs = u .regs;
           used = u .used;

@@ -20,7 +20,7 @@ use Rattle.exec.proofs.Runs.{for-past, for-dry}
 use Rattle.course.specs.Course.{ahead, next, after, GoesOn, Leads, charged, Refused, Stop, Course}
 use Rattle.course.specs.Course.Stop.{past, dry, acts}
 use Rattle.course.proofs.Courses.{ends-quietly, run-course, run-step, run-next, run-after}
-use Rattle.twins.specs.Twins.{Agree, Alike, SameEnd, UpTo}
+use Rattle.twins.specs.Twins.{Agree, Alike, SameEnd, Abreast, UpTo}
 use Rattle.twins.proofs.Agrees.{less}
 use Rattle.twins.proofs.Steps.{Together, step-both, top-same}
 use Rattle.twins.proofs.Steps.Together.{on, ends, first-refused, second-refused}
@@ -59,16 +59,6 @@ gone x d q = subst GoesOn (sym q) tt
 led : (s : State) (x : Step) (fr rg : List ℕ) (d : ℕ) → x ≡ Go d → ahead s x fr rg ≡ state fr rg d
 led s x fr rg d e = ap (λ (y : Step). ahead s y fr rg) e
 
--- t has taken as many steps as s, and is alike there
-pub record Follows (p : Program) (price : Price) (most k m n : ℕ) (s t : State) : Type 0 where
-  pub leads : Leads p most n t
-  pub K : ℕ
-  pub M : ℕ
-  pub moreFrames : k ≤ K
-  pub moreRegs : m ≤ M
-  pub alike : Alike p K M (after p most n s) (after p most n t)
-  pub same : charged p price most n t ≡ charged p price most n s
-
 module _ (p : Program) (price : Price) (fair : Fair price) (most : ℕ) where
   -- a run whose step is refused is refused
   refused-run : (fuel : ℕ) (t : State) (e : Ending) → Inside p t → costAt p price t ≤ fuel → step p most t .answer ≡ Ends e → run p price most fuel t .what ≡ e
@@ -77,9 +67,9 @@ module _ (p : Program) (price : Price) (fair : Fair price) (most : ℕ) where
       ∙ ap (λ (x : Step). onward (costAt p price t) x (step p most t .frames) (step p most t .regs) (λ u. run p price most (fuel - costAt p price t) u) .what) q
 
   pub follows : (n fuel k m : ℕ) (s t : State) → Alike p k m s t → Leads p most n s → charged p price most n s ≤ fuel → (Refused (run p price most fuel t .what) → ⊥)
-      → Follows p price most k m n s t
+      → Abreast p price most k m n s t
   unfolding after Leads charged
-  follows zero fuel k m s t h l a r = record { leads = tt; K = k; M = m; moreFrames = omega arith; moreRegs = omega arith; alike = h; same = refl }
+  follows zero fuel k m s t h l a r = record { first = tt; second = tt; charge = refl; framesTo = k; regsTo = m; frames = omega arith; regs = omega arith; alike = h }
   follows (suc n) fuel k m s t h l a r = go (step-alike p k m s t h most) (λ K M x. follows n (fuel - costAt p price s) K M (next p most s) (next p most t) x (l .1 .1) (omega arith))
     where
       rest : ℕ
@@ -89,8 +79,8 @@ module _ (p : Program) (price : Price) (fair : Fair price) (most : ℕ) where
       here = cost-alike p k m s t h price
 
       go : Together p k m (step p most s) (step p most t)
-          → ((K M : ℕ) → Alike p K M (next p most s) (next p most t) → (Refused (run p price most (fuel - costAt p price s) (next p most t) .what) → ⊥) → Follows p price most K M n (next p most s) (next p most t))
-          → Follows p price most k m (suc n) s t
+          → ((K M : ℕ) → Alike p K M (next p most s) (next p most t) → (Refused (run p price most (fuel - costAt p price s) (next p most t) .what) → ⊥) → Abreast p price most K M n (next p most s) (next p most t))
+          → Abreast p price most k m (suc n) s t
       go (on d K M b c x y z) f =
           let i : Inside p t = inside-alike p k m s t h (l .0) in
           let g : GoesOn (step p most t .answer) = gone (step p most t .answer) d y in
@@ -103,13 +93,14 @@ module _ (p : Program) (price : Price) (fair : Fair price) (most : ℕ) where
           ∙ ap (λ (c : ℕ). run p price most (fuel - c) (next p most t) .what) here in
           let rest = f K M q (λ v. r (subst Refused (sym w) v)) in
           record {
-            leads = (i, (g, rest .leads));
-            K = rest .K;
-            M = rest .M;
-            moreFrames = omega (arith, rest .moreFrames);
-            moreRegs = omega (arith, rest .moreRegs);
+            first = l;
+            second = (i, (g, rest .second));
+            charge = omega (arith, here, rest .charge);
+            framesTo = rest .framesTo;
+            regsTo = rest .regsTo;
+            frames = omega (arith, rest .frames);
+            regs = omega (arith, rest .regs);
             alike = rest .alike;
-            same = omega (arith, here, rest .same);
           }
       go (ends e x y) f = absurd (ended-on (step p most s .answer) e x (l .1 .0))
       go (first-refused e x y) f = absurd (ended-on (step p most s .answer) e x (l .1 .0))
@@ -126,7 +117,7 @@ module _ (p : Program) (price : Price) (fair : Fair price) (most : ℕ) where
     c : Course p price most fuel s (run p price most fuel s)
     c = run-course p price most fair fuel s
 
-    w : Follows p price most k m (c .steps) s t
+    w : Abreast p price most k m (c .steps) s t
     w = follows (c .steps) fuel k m s t h (c .leads) (c .affords) served
 
     abbrev u : State
@@ -141,29 +132,24 @@ module _ (p : Program) (price : Price) (fair : Fair price) (most : ℕ) where
     -- where the second goes on from
     second : run p price most fuel t ≡ later (charged p price most (c .steps) s) (run p price most left v)
     second =
-        run-after p price most fair (c .steps) fuel t (w .leads) (omega (arith, w .same, c .affords))
-        ∙ ap (λ (n : ℕ). later n (run p price most (fuel - n) v)) (w .same)
+        run-after p price most fair (c .steps) fuel t (w .second) (omega (arith, w .charge, c .affords))
+        ∙ ap (λ (n : ℕ). later n (run p price most (fuel - n) v)) (w .charge)
 
     -- the first is refused at a step that the second takes
     pub up-to : Refused (run p price most fuel s .what) → UpTo p price most fuel k m s t (run p price most fuel s) (run p price most fuel t)
     up-to r = record {
       steps = c .steps;
-      leads = w .leads;
-      frameWordsAlike = w .K;
-      regWordsAlike = w .M;
-      moreFrames = w .moreFrames;
-      moreRegs = w .moreRegs;
-      alike = w .alike;
+      abreast = w;
       frames = c .frames;
       regs = c .regs;
       used = spent (c .stop);
-      goesOn = run-after p price most fair (c .steps) fuel t (w .leads) (omega (arith, w .same, c .affords));
+      goesOn = run-after p price most fair (c .steps) fuel t (w .second) (omega (arith, w .charge, c .affords));
     }
       where
         spent : Stop p price most left u (f .what) (c .last) → f .used ≡ charged p price most (c .steps) t + costAt p price v
         spent (past e z l) = absurd (subst Refused e r)
         spent (dry e z i l) = absurd (subst Refused e r)
-        spent (acts z i l q) = omega (arith, c .used, w .same, cost-alike p (w .K) (w .M) u v (w .alike) price)
+        spent (acts z i l q) = omega (arith, c .used, w .charge, cost-alike p (w .framesTo) (w .regsTo) u v (w .alike) price)
 
     -- ---- neither is refused
     module _ (kept : Refused (run p price most fuel s .what) → ⊥) where
@@ -172,15 +158,15 @@ module _ (p : Program) (price : Price) (fair : Fair price) (most : ℕ) where
       ending x charge e what last = record {
         what = ap (λ (y : Final). y .what) (second ∙ ap (later (charged p price most (c .steps) s)) e) ∙ sym what;
         used = ap (λ (y : Final). y .used) (second ∙ ap (later (charged p price most (c .steps) s)) e) ∙ ap (λ (n : ℕ). charged p price most (c .steps) s + n) (sym last) ∙ sym (c .used);
-        frames = subst (λ (l : List ℕ). Agree k l (g .frames)) (sym (c .frames)) (subst (λ (l : List ℕ). Agree k (u .frames) l) (sym (ap (λ (y : Final). y .frames) (second ∙ ap (later (charged p price most (c .steps) s)) e))) (less (w .K) k (u .frames) (v .frames) (w .moreFrames) (w .alike .frames)));
-        regs = subst (λ (l : List ℕ). Agree m l (g .regs)) (sym (c .regs)) (subst (λ (l : List ℕ). Agree m (u .regs) l) (sym (ap (λ (y : Final). y .regs) (second ∙ ap (later (charged p price most (c .steps) s)) e))) (less (w .M) m (u .regs) (v .regs) (w .moreRegs) (w .alike .regs)));
+        frames = subst (λ (l : List ℕ). Agree k l (g .frames)) (sym (c .frames)) (subst (λ (l : List ℕ). Agree k (u .frames) l) (sym (ap (λ (y : Final). y .frames) (second ∙ ap (later (charged p price most (c .steps) s)) e))) (less (w .framesTo) k (u .frames) (v .frames) (w .frames) (w .alike .frames)));
+        regs = subst (λ (l : List ℕ). Agree m l (g .regs)) (sym (c .regs)) (subst (λ (l : List ℕ). Agree m (u .regs) l) (sym (ap (λ (y : Final). y .regs) (second ∙ ap (later (charged p price most (c .steps) s)) e))) (less (w .regsTo) m (u .regs) (v .regs) (w .regs) (w .alike .regs)));
       }
 
       cost-here : costAt p price v ≡ costAt p price u
-      cost-here = cost-alike p (w .K) (w .M) u v (w .alike) price
+      cost-here = cost-alike p (w .framesTo) (w .regsTo) u v (w .alike) price
 
       -- both steps end the run
-      acting : Inside p v → costAt p price v ≤ left → step p most u ≡ stops u (Ends (f .what)) → c .last ≡ costAt p price u → Together p (w .K) (w .M) (step p most u) (step p most v) → SameEnd k m f g
+      acting : Inside p v → costAt p price v ≤ left → step p most u ≡ stops u (Ends (f .what)) → c .last ≡ costAt p price u → Together p (w .framesTo) (w .regsTo) (step p most u) (step p most v) → SameEnd k m f g
       acting i a q z (on d K M b e x y al) = absurd (ended-on (step p most u .answer) (f .what) (ap (λ (o : Stepped). o .answer) q) (gone (step p most u .answer) d x))
       acting i a q z (ends e x y) =
           ending e (costAt p price v)
@@ -193,10 +179,10 @@ module _ (p : Program) (price : Price) (fair : Fair price) (most : ℕ) where
 
       stopping : Stop p price most left u (f .what) (c .last) → SameEnd k m f g
       stopping (past e z l) =
-          ending (Trapped InvalidPc) 0 (for-past p price most left left v (subst (λ (x : Top). lengthOf p (x .function) ≤ x .place) (sym (top-alike p (w .K) (w .M) u v (w .alike))) l)) e z
+          ending (Trapped InvalidPc) 0 (for-past p price most left left v (subst (λ (x : Top). lengthOf p (x .function) ≤ x .place) (sym (top-alike p (w .framesTo) (w .regsTo) u v (w .alike))) l)) e z
       stopping (dry e z i l) =
-          ending (Trapped FuelExceeded) left (for-dry p price most left left v (inside-alike p (w .K) (w .M) u v (w .alike) i) (omega (arith, cost-here))) e z
-      stopping (acts z i l q) = acting (inside-alike p (w .K) (w .M) u v (w .alike) i) (omega (arith, cost-here)) q z (step-alike p (w .K) (w .M) u v (w .alike) most)
+          ending (Trapped FuelExceeded) left (for-dry p price most left left v (inside-alike p (w .framesTo) (w .regsTo) u v (w .alike) i) (omega (arith, cost-here))) e z
+      stopping (acts z i l q) = acting (inside-alike p (w .framesTo) (w .regsTo) u v (w .alike) i) (omega (arith, cost-here)) q z (step-alike p (w .framesTo) (w .regsTo) u v (w .alike) most)
 
       pub same-end : SameEnd k m (run p price most fuel s) (run p price most fuel t)
       same-end = stopping (c .stop)

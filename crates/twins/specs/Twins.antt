@@ -34,16 +34,22 @@ pub record SameEnd (k m : ℕ) (f g : Final) : Type 0 where
   pub frames : Agree k (f .frames) (g .frames)
   pub regs : Agree m (f .regs) (g .regs)
 
--- the run f from s, refused for room, is the run g from t up to the refused push: as many steps lead to states that are alike, the
--- lent words of f are those there, and its fuel used is what g has used there, with the Call that f was refused for
+-- n steps have led both to states that are alike, at least as far as k and m, and were charged the same
+pub record Abreast (p : Program) (price : Price) (most k m n : ℕ) (s t : State) : Type 0 where
+  pub first : Leads p most n s
+  pub second : Leads p most n t
+  pub charge : charged p price most n t ≡ charged p price most n s
+  pub framesTo : ℕ
+  pub regsTo : ℕ
+  pub frames : k ≤ framesTo
+  pub regs : m ≤ regsTo
+  pub alike : Alike p framesTo regsTo (after p most n s) (after p most n t)
+
+-- the run f from s, refused for room, is the run g from t up to the refused push: so many steps later they are abreast, the lent words
+-- of f are those there, its fuel used is what g has used there, with the Call that f was refused for, and g goes on from there
 pub record UpTo (p : Program) (price : Price) (most fuel k m : ℕ) (s t : State) (f g : Final) : Type 0 where
   pub steps : ℕ
-  pub leads : Leads p most steps t
-  pub frameWordsAlike : ℕ
-  pub regWordsAlike : ℕ
-  pub moreFrames : k ≤ frameWordsAlike
-  pub moreRegs : m ≤ regWordsAlike
-  pub alike : Alike p frameWordsAlike regWordsAlike (after p most steps s) (after p most steps t)
+  pub abreast : Abreast p price most k m steps s t
   pub frames : f .frames ≡ after p most steps s .frames
   pub regs : f .regs ≡ after p most steps s .regs
   pub used : f .used ≡ charged p price most steps t + costAt p price (after p most steps t)
