@@ -1,6 +1,6 @@
 // The inner loop: the running frame goes on by itself, with its place and the fuel in locals and its registers as a part of the lent
 // words. Everything that a step of every opcode shares stands here once: the test of the place, the instruction, the charge. The
-// charge is the meter's rule on a plain number: through the meter the compiler makes five instructions of what here are two.
+// charge is the meter's rule on a plain number: through the meter a step would have five machine instructions more.
 use crate::frame;
 use crate::frame::Top;
 use image::record::FUNCTION_SIZE;
