@@ -1,29 +1,24 @@
 -- The same for callers of the engine's functions: each statement takes nothing but what the functions' own contracts tell of their
 -- answers. Assumes nothing.
-use Prim.Native.Nat.{ℕ, zero, suc, _+_, _≤_}
-use mathlib.Core.Path.{_≡_, refl, sym, ap, _∙_, subst}
-use mathlib.Core.Bool.{Bool, true, false, _&&_}
+use Prim.Native.Nat.{ℕ, _+_, _≤_}
+use mathlib.Core.Path.{_≡_, sym, ap, _∙_, subst}
 use mathlib.Core.List.{List, [], _∷_}
 use mathlib.Core.Logic.{_≢_}
 use native.Mathlib.Omega.{arith}
 use denote.Ref.{now}
-use lib.Dec.{leb, eqb}
-use lib.ListN.{length, getD}
+use lib.ListN.{getD}
 use Rattle.basis.specs.Choice.{pick}
-use Rattle.basis.specs.Answers.{isFine, demand, orElse, firstOf}
+use Rattle.basis.specs.Answers.{isFine}
 use Rattle.runtime.specs.declared.CoreTrap.{CoreTrap}
 use Rattle.runtime.specs.declared.CoreTrap.the-variants.{InvalidRegister, FuelExceeded, InvalidFunction}
 use Rattle.runtime.specs.Trap.{trapCode}
 use Rattle.runtime.proofs.Unique.{trap-unique}
-use Rattle.value.specs.declared.result.CoreStatus.{CoreStatus}
 use Rattle.value.specs.declared.result.CoreStatus.the-variants as status
 use Rattle.value.specs.declared.result.CoreResult.{CoreResult}
 use Rattle.value.specs.Result.{statusWord}
-use Rattle.instr.specs.declared.Instr.{Instr}
-use Rattle.image.specs.Records.{RecordLayout, form1, headerOf, headerSize, functionNo, instrNo, startOf}
-use Rattle.image.specs.declared.ImageFault.the-variants.{Short, Form, Layout, FunctionTable, Instruction}
-use Rattle.image.specs.Image.{faultNumbers, layoutHolds, rowFault, tableFault, recordHolds, recordFault, imageFault}
-use Rattle.image.specs.Program.{Program, decode}
+use Rattle.image.specs.Records.{form1}
+use Rattle.image.specs.Image.{imageFault}
+use Rattle.image.specs.Program.{decode}
 use Rattle.admission.specs.declared.CoreValidation.the-variants.{Admitted}
 use Rattle.admission.specs.Verdict.{verdictNumbers, verdict}
 use Rattle.admission.proofs.validate_program.Reads as validate_program
@@ -38,61 +33,22 @@ use Rattle.exec.proofs.execute_outcome.Reads as execute_outcome
 use Rattle.course.specs.Course.{Refused}
 use Rattle.room.specs.Room.{Enough}
 use Rattle.assurance.specs.Acceptance.{runs}
+use Rattle.assurance.proofs.Numbered.{Numbered, image-numbered}
 use Rattle.assurance.proofs.Acceptance.{acceptance}
-
--- ---- an image's fault has one of the numbers 1 to 5
-abbrev Fault : List ℕ → Type 0
-Fault [] = Unit {0}
-Fault (n ∷ ns) = (1 ≤ n) × (n ≤ 5)
-
-demand-fault : (b : Bool) (a : List ℕ) → Fault a → Fault (demand b a)
-demand-fault true a h = tt
-demand-fault false a h = h
-
-or-fault : (a b : List ℕ) → Fault a → Fault b → Fault (orElse a b)
-or-fault [] b h k = k
-or-fault (n ∷ ns) b h k = h
-
-first-fault : (f : ℕ → List ℕ) → ((k : ℕ) → Fault (f k)) → (n : ℕ) → Fault (firstOf f n)
-unfolding firstOf
-first-fault f h zero = tt
-first-fault f h (suc n) = or-fault (firstOf f n) (f n) (first-fault f h n) (h n)
-
-row-fault : (b : List ℕ) (k : ℕ) → Fault (rowFault b k)
-unfolding rowFault
-row-fault b k = demand-fault (eqb (functionNo b k .zero) 0 && eqb (functionNo b k .first) (startOf b k)) (faultNumbers (FunctionTable k)) (omega arith, omega arith)
-
-table-fault : (b : List ℕ) (functions instructions : ℕ) → Fault (tableFault b functions instructions)
-unfolding tableFault
-table-fault b functions instructions =
-    or-fault (firstOf (rowFault b) functions) (demand (eqb (startOf b functions) instructions) (faultNumbers (FunctionTable functions)))
-    (first-fault (rowFault b) (row-fault b) functions)
-    (demand-fault (eqb (startOf b functions) instructions) (faultNumbers (FunctionTable functions)) (omega arith, omega arith))
-
-record-fault : (instr : ℕ → Instr) (k : ℕ) → Fault (recordFault instr k)
-unfolding recordFault
-record-fault instr k = demand-fault (recordHolds (instr k)) (faultNumbers (Instruction k)) (omega arith, omega arith)
-
-fault-numbered : (L : RecordLayout) (b : List ℕ) → Fault (imageFault L b)
-unfolding imageFault
-fault-numbered L b =
-    let short : List ℕ = demand (leb headerSize (length b)) (faultNumbers Short) in
-    let form : List ℕ = demand (eqb (headerOf b .form) (L .form)) (faultNumbers Form) in
-    let layout : List ℕ = demand (layoutHolds L (headerOf b) (length b)) (faultNumbers Layout) in
-    let table : List ℕ = tableFault b (headerOf b .functions) (headerOf b .instructions) in
-    let records : List ℕ = firstOf (recordFault (instrNo L b)) (headerOf b .instructions) in
-    or-fault short (orElse form (orElse layout (orElse table records))) (demand-fault (leb headerSize (length b)) (faultNumbers Short) (omega arith, omega arith))
-    (or-fault form (orElse layout (orElse table records)) (demand-fault (eqb (headerOf b .form) (L .form)) (faultNumbers Form) (omega arith, omega arith))
-    (or-fault layout (orElse table records) (demand-fault (layoutHolds L (headerOf b) (length b)) (faultNumbers Layout) (omega arith, omega arith))
-    (or-fault table records (table-fault b (headerOf b .functions) (headerOf b .instructions)) (first-fault (recordFault (instrNo L b)) (record-fault (instrNo L b)) (headerOf b .instructions)))))
 
 -- ---- from an answer's numbers to how the run ended
 -- status and fuel of a result; what is none has neither
-abbrev statusOf : Ending → ℕ
+abbrev pub statusOf : Ending → ℕ
 statusOf (ending.Returned word) = 0
 statusOf (ending.Trapped t) = 1 + trapCode t
 statusOf ending.FrameRoom = 0
 statusOf ending.RegisterRoom = 0
+
+pub status-trap : (what : Ending) (t : CoreTrap) → statusOf what ≡ 1 + trapCode t → (Refused what → ⊥) → what ≡ ending.Trapped t
+status-trap (ending.Returned word) t n h = absurd (omega arith)
+status-trap (ending.Trapped u) t n h = ap ending.Trapped (trap-unique u t (omega arith))
+status-trap ending.FrameRoom t n h = absurd (h tt)
+status-trap ending.RegisterRoom t n h = absurd (h tt)
 
 abbrev Tells : Ending → ℕ → CoreOutcome → Type 0
 Tells what used (Done x) = (statusWord (x .status) ≡ statusOf what) × ((x .«fuel_used» ≡ used) × (Refused what → ⊥))
@@ -132,12 +88,12 @@ faulty (RegisterRoom k) what used n ns h q = absurd (let e : 7 ≡ n = at _ _ 0 
 answered : (bytes : List ℕ) (most fuel : ℕ) (fr rg : List ℕ) (r : CoreOutcome) → outcomeNumbers r ≡ execution form1 unit bytes most fuel fr rg .answer
     → Tells (runs (decode form1 bytes) most fuel fr rg .what) (runs (decode form1 bytes) most fuel fr rg .used) r
 unfolding execution
-answered bytes most fuel fr rg r q = go (imageFault form1 bytes) (fault-numbered form1 bytes) q
+answered bytes most fuel fr rg r q = go (imageFault form1 bytes) (image-numbered form1 bytes) q
   where
     f : Final
     f = runs (decode form1 bytes) most fuel fr rg
 
-    go : (fault : List ℕ) → Fault fault → outcomeNumbers r ≡ pick (isFine fault) (ended f) (executed fault fr rg) .answer → Tells (f .what) (f .used) r
+    go : (fault : List ℕ) → Numbered 5 fault → outcomeNumbers r ≡ pick (isFine fault) (ended f) (executed fault fr rg) .answer → Tells (f .what) (f .used) r
     go [] h e = tells (f .what) (f .used) r e
     go (n ∷ ns) h e = faulty r (f .what) (f .used) n ns h e
 
@@ -168,13 +124,7 @@ module _ (κs : _) (a : _) (r : _) (e : _) (told : execute_outcome.Learnt κs a 
   trapped-so : (x : CoreResult) (t : CoreTrap) → r ≡ Done x → x .status ≡ status.Trapped t → f .what ≡ ending.Trapped t
   trapped-so x t q z =
       let k = subst (Tells (f .what) (f .used)) q tell in
-      go (f .what) (sym (k .0) ∙ ap statusWord z) (k .1 .1)
-    where
-      go : (what : Ending) → statusOf what ≡ 1 + trapCode t → (Refused what → ⊥) → what ≡ ending.Trapped t
-      go (ending.Returned word) n h = absurd (omega arith)
-      go (ending.Trapped u) n h = ap ending.Trapped (trap-unique u t (omega arith))
-      go ending.FrameRoom n h = absurd (h tt)
-      go ending.RegisterRoom n h = absurd (h tt)
+      status-trap (f .what) t (sym (k .0) ∙ ap statusWord z) (k .1 .1)
 
   -- the fuel that it answers is never above the configuration's, and all of that on FuelExceeded
   pub fuel-answered : (x : CoreResult) → r ≡ Done x → (x .«fuel_used» ≤ a .1 .0 .fuel) × (x .status ≡ status.Trapped FuelExceeded → x .«fuel_used» ≡ a .1 .0 .fuel)

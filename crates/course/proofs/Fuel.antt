@@ -1,15 +1,13 @@
 -- The fuel that a run uses: never above the limit, the whole limit where it is FuelExceeded, and one unit for each instruction begun,
 -- which are the steps themselves. Assumes nothing.
-use Prim.Native.Nat.{ℕ, zero, suc, _+_, _-_, _≤_, _<_}
+use Prim.Native.Nat.{ℕ, zero, suc, _-_, _≤_}
 use mathlib.Core.Path.{_≡_, refl, sym, ap, _∙_, subst}
 use mathlib.Core.Bool.{Bool, true, false}
 use mathlib.Core.List.{List, [], _∷_}
 use mathlib.Core.Logic.{_≢_}
-use native.Mathlib.Nat.{not-suc-le-zero, le-of-suc-le-suc}
 use native.Mathlib.Omega.{arith}
 use lib.Dec.{ltb}
-use lib.ListN.{length, getD}
-use borrow.Author.Tests.{leb-false}
+use lib.ListN.{length}
 use Rattle.basis.specs.Choice.{pick}
 use Rattle.runtime.specs.declared.CoreTrap.{CoreTrap}
 use Rattle.runtime.specs.declared.CoreTrap.the-variants.{InvalidPc, InvalidRegister, TypeMismatch, DivisionByZero, IntegerOverflow, FuelExceeded, CallDepthExceeded, InvalidFunction, AssertFailed, ExplicitTrap}
@@ -21,7 +19,7 @@ use Rattle.exec.specs.declared.Step.{Step}
 use Rattle.exec.specs.declared.Step.the-variants.{Go, Ends}
 use Rattle.exec.specs.Price.{Price, Fair, unit}
 use Rattle.exec.specs.Lent.{State, state}
-use Rattle.exec.specs.Step.{Stepped, stops, nextInstr, step, isPast, Inside}
+use Rattle.exec.specs.Step.{Stepped, stops, nextInstr, step, isPast}
 use Rattle.exec.specs.Run.{Final, costAt, run}
 use Rattle.exec.specs.Begun.{begunAfter, begunFor, begun}
 use Rattle.exec.specs.Execute.{entryState, entered}
@@ -30,7 +28,7 @@ use Rattle.course.specs.Course.{ahead, next, after, trail, charged, Stop
 use Rattle.course.specs.Course.Stop.{past, dry, acts}
 use Rattle.course.proofs.Cases.{step-cases, wentAt, window}
 use Rattle.course.proofs.Courses.{endCode, run-course}
-use Rattle.course.proofs.Traps.{Own, Misses, OwnWay, straight-own}
+use Rattle.course.proofs.Traps.{Own, OwnWay, straight-own}
 use Rattle.course.proofs.Along.{Keeps}
 use Rattle.course.proofs.Counts.{used-begun}
 use Rattle.course.proofs.Entered.{begun-cases}

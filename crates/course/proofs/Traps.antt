@@ -1,6 +1,6 @@
 -- Which traps an instruction can have inside its frame, by the forms of instructions and the shapes of rules. Assumes nothing.
 use Prim.Native.Nat.{ℕ, _-_, _%_, _^_, _≤_, _<_}
-use mathlib.Core.Path.{_≡_, refl, sym, subst}
+use mathlib.Core.Path.{_≡_, refl, subst}
 use mathlib.Core.Bool.{Bool, true, false}
 use mathlib.Core.List.{List}
 use native.Mathlib.Omega.{arith}
@@ -9,7 +9,7 @@ use lib.Dec.{ltb, leb, eqb}
 use lib.IntN.{ℤ, pos, negℤ, _+ℤ_, _-ℤ_, _*ℤ_}
 use lib.ListN.{length, getD, set}
 use lib.Signed.{quotZ}
-use borrow.Author.Tests.{leb-true, ltb-false, le-ltb, ne-eqb}
+use borrow.Author.Tests.{leb-true, ltb-false}
 use Rattle.basis.specs.Choice.{pick}
 use Rattle.basis.proofs.Ranges.{_&_, each}
 use Rattle.runtime.specs.declared.CoreTrap.{CoreTrap}
@@ -39,6 +39,7 @@ use Rattle.straight.specs.declared.Deed.{Deed}
 use Rattle.straight.specs.declared.Deed.the-variants as deed
 use Rattle.straight.specs.declared.Went.{Went}
 use Rattle.straight.specs.declared.Went.the-variants.{On, To, Fails, Leaves}
+use Rattle.straight.proofs.Flows.{leaves-flow}
 use Rattle.straight.specs.Straight.{storing, tested, onCondition, asked, local, stored, done, straight}
 
 -- a trap that an instruction has of itself: none that belongs to the run or to a Call, and InvalidRegister only where R
@@ -179,21 +180,11 @@ fits-rows op h =
     both = (refl, (refl, refl))
 
 fits : (op : ℕ) → FitsAt op
-unfolding flowOf
 fits op = go (decLt op 54)
   where
     go : Dec (op < 54) → FitsAt op
     go (yes h) = fits-rows op h
-    go (no h) =
-        rw (
-          ne-eqb op 0 (λ e. omega arith),
-          ne-eqb op 1 (λ e. omega arith),
-          ne-eqb op 2 (λ e. omega arith),
-          le-ltb op 51 (omega arith),
-          ne-eqb op 51 (λ e. omega arith),
-          ne-eqb op 52 (λ e. omega arith),
-          ne-eqb op 53 (λ e. omega arith),
-        ) (omega arith)
+    go (no h) = let l : 54 ≤ op = omega arith in subst (λ (f : Flow). Fits f op (ruleOf op) (fieldsOf op)) (leaves-flow op l) l
 
 -- ---- one instruction
 -- a register that the instruction names and that is not there is a case of R

@@ -7,7 +7,6 @@ use native.Mathlib.Omega.{arith}
 use lib.Dec.{eqb}
 use lib.ListN.{length, getD}
 use Rattle.basis.specs.Choice.{pick}
-use Rattle.runtime.specs.declared.CoreTrap.{CoreTrap}
 use Rattle.runtime.specs.declared.CoreTrap.the-variants.{InvalidPc, InvalidRegister, TypeMismatch, DivisionByZero, IntegerOverflow, FuelExceeded, CallDepthExceeded, InvalidFunction, AssertFailed, ExplicitTrap}
 use Rattle.runtime.specs.Trap.{trapCode}
 use Rattle.runtime.proofs.Unique.{trapAt, trap-back}

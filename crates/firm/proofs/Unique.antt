@@ -1,6 +1,6 @@
 -- Every public function of the engine, by its own contract: just one answer, and one content of what was lent, meets it. Assumes nothing.
 use Prim.Native.Nat.{ℕ}
-use mathlib.Core.Path.{_≡_, sym, ap, _∙_}
+use mathlib.Core.Path.{sym, ap, _∙_}
 use mathlib.Core.List.{List, [], _∷_}
 use denote.Ref.{now}
 use Rattle.runtime.proofs.Unique.{profile-unique, charge-unique}

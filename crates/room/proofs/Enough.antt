@@ -4,11 +4,10 @@ use mathlib.Core.Path.{_≡_, refl, subst}
 use mathlib.Core.List.{List}
 use native.Mathlib.Nat.{mul-le-mul-right}
 use native.Mathlib.Omega.{arith}
-use lib.ListN.{length, replicate, length-set}
-use lib.Seq.{sets, length-sets}
+use lib.ListN.{length, length-set}
+use lib.Seq.{length-sets}
 use Rattle.image.specs.Program.{Program}
 use Rattle.image.specs.Parts.{functionsOf, regsOf}
-use Rattle.exec.specs.declared.Ending.{Ending}
 use Rattle.exec.specs.Price.{Price, Fair}
 use Rattle.exec.specs.Lent.{State}
 use Rattle.exec.specs.Run.{run}

@@ -1,7 +1,7 @@
 -- A step keeps the running frame within the depth limit, and each frame's registers within as many times the largest count. Assumes
 -- nothing.
-use Prim.Native.Nat.{ℕ, zero, suc, _+_, _*_, _-_, _≤_, _<_, max}
-use mathlib.Core.Path.{_≡_, refl, sym, ap, _∙_, subst}
+use Prim.Native.Nat.{ℕ, zero, suc, _+_, _*_, _-_, _≤_, _<_}
+use mathlib.Core.Path.{_≡_, refl, ap, _∙_, subst}
 use mathlib.Core.Bool.{Bool, true, false}
 use mathlib.Core.List.{List, [], _∷_}
 use native.Mathlib.Nat.{le-trans, le-max-left, le-max-right, mul-le-mul-right, suc-mul}
@@ -13,8 +13,8 @@ use borrow.Author.Tests.{ltb-true, ltb-false}
 use Rattle.image.specs.Program.{Function, Program, noFunction}
 use Rattle.image.specs.Parts.{regsOf}
 use Rattle.exec.specs.declared.Ending.{Ending}
-use Rattle.exec.specs.Lent.{firstWord, functionWord, State, state, topAt}
-use Rattle.exec.specs.Step.{moved, pushedFrames, pushedRegs, nextInstr, step, Inside}
+use Rattle.exec.specs.Lent.{firstWord, State, state, topAt}
+use Rattle.exec.specs.Step.{moved, pushedFrames, pushedRegs, nextInstr, step}
 use Rattle.exec.proofs.Parts.{length-part, length-put}
 use Rattle.exec.proofs.Keeps.{GoodIn, moved-good, push-keeps}
 use Rattle.course.proofs.Cases.{window, regsAt, source, belowAt, dstAt, Calls, step-cases}

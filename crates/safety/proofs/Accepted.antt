@@ -1,5 +1,5 @@
 -- An accepted program's run is safe, whatever the price, the fuel, the depth limit and the lent words. Assumes nothing.
-use Prim.Native.Nat.{ℕ, zero, suc, _+_, _*_, _-_, _≤_, _<_}
+use Prim.Native.Nat.{ℕ, zero, suc, _+_, _-_, _≤_, _<_}
 use mathlib.Core.Path.{_≡_, refl, sym, ap, _∙_, subst}
 use mathlib.Core.List.{List, []}
 use mathlib.Core.Logic.{_≢_}
@@ -10,31 +10,31 @@ use Rattle.runtime.specs.declared.CoreTrap.{CoreTrap}
 use Rattle.runtime.specs.declared.CoreTrap.the-variants.{InvalidPc, InvalidRegister, TypeMismatch, DivisionByZero, IntegerOverflow, FuelExceeded, CallDepthExceeded, InvalidFunction, AssertFailed, ExplicitTrap}
 use Rattle.runtime.specs.declared.CoreAdmissionProfile.{CoreAdmissionProfile}
 use Rattle.runtime.specs.Trap.{trapCode}
-use Rattle.image.specs.Records.{RecordLayout, headerOf, functionNo, instrNo}
-use Rattle.image.specs.WellFormed.{WellFormed, Lawful}
+use Rattle.image.specs.Records.{RecordLayout, headerOf, functionNo}
+use Rattle.image.specs.WellFormed.{WellFormed}
 use Rattle.image.specs.Program.{Program, decode}
-use Rattle.image.specs.Parts.{functionsOf, regsOf, lengthOf, codeOf}
+use Rattle.image.specs.Parts.{functionsOf, regsOf, lengthOf}
 use Rattle.image.proofs.Parts.{functions-length, inside}
 use Rattle.image.proofs.Numbers.{length-in, code-in}
 use Rattle.admission.specs.Verdict.{verdict}
-use Rattle.admission.specs.Admissible.{FunctionRule, Admissible}
+use Rattle.admission.specs.Admissible.{Admissible}
 use Rattle.admission.proofs.Agree.{admitted}
 use Rattle.exec.specs.declared.Ending.{Ending}
 use Rattle.exec.specs.declared.Ending.the-variants.{Trapped, FrameRoom, RegisterRoom}
 use Rattle.exec.specs.Price.{Price, Fair}
-use Rattle.exec.specs.Lent.{functionWord, placeWord, State, topAt}
+use Rattle.exec.specs.Lent.{State, topAt}
 use Rattle.exec.specs.declared.Step.the-variants.{Ends}
 use Rattle.exec.specs.Step.{stops, step, Inside}
 use Rattle.exec.specs.Run.{final, run}
 use Rattle.exec.specs.Execute.{entryState, entered}
 use Rattle.exec.proofs.Entry.{entry-stands}
-use Rattle.course.specs.Course.{after, Leads, charged, Stop, Course}
+use Rattle.course.specs.Course.{after, charged, Stop, Course}
 use Rattle.course.specs.Course.Stop.{past, dry, acts}
 use Rattle.course.proofs.Courses.{endCode, run-course}
 use Rattle.course.proofs.Words.{entry-function, entry-place}
 use Rattle.course.proofs.Entered.{entered-cases}
 use Rattle.course.proofs.Along.{along, at-end}
-use Rattle.safety.specs.Safe.{AtLength, Safe}
+use Rattle.safety.specs.Safe.{Safe}
 use Rattle.safety.proofs.Linked.{Sure, Linked, SoundEnd, step-linked}
 
 -- two endings told apart by their codes

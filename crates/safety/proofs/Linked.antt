@@ -11,23 +11,21 @@ use lib.ListN.{length, set, length-set}
 use borrow.Author.Tests.{ltb-true, ltb-false, eqb-true, eqb-false, le-leb}
 use Rattle.runtime.specs.declared.CoreTrap.{CoreTrap}
 use Rattle.runtime.specs.declared.CoreTrap.the-variants.{InvalidPc, InvalidRegister, TypeMismatch, DivisionByZero, IntegerOverflow, FuelExceeded, CallDepthExceeded, InvalidFunction, AssertFailed, ExplicitTrap}
-use Rattle.instr.specs.declared.Instr.{Instr}
 use Rattle.image.specs.Fields.{Use, opcodes, forms, fieldsOf}
-use Rattle.image.specs.Fields.Use.{register, target}
+use Rattle.image.specs.Fields.Use.{register}
 use Rattle.image.specs.Program.{Program}
 use Rattle.image.specs.Parts.{functionsOf, regsOf, lengthOf, codeOf, Call, Ret}
 use Rattle.admission.specs.Admissible.{Allowed, Operands}
-use Rattle.straight.specs.declared.Went.the-variants.{On, To, Fails, Leaves}
+use Rattle.straight.specs.declared.Went.the-variants.{To, Leaves}
 use Rattle.exec.specs.declared.Ending.{Ending}
 use Rattle.exec.specs.declared.Ending.the-variants.{Returned, Trapped, FrameRoom, RegisterRoom}
-use Rattle.exec.specs.Lent.{functionWord, placeWord, dstWord, firstWord, State, state, topAt}
+use Rattle.exec.specs.Lent.{functionWord, placeWord, dstWord, State, state, topAt}
 use Rattle.exec.specs.Step.{moved, windowFits, pushedFrames, pushedRegs, nextInstr, step, Inside}
-use Rattle.exec.specs.Burst.{Good}
 use Rattle.exec.proofs.Parts.{length-part}
 use Rattle.exec.proofs.Keeps.{GoodIn, moved-good, push-keeps}
-use Rattle.course.proofs.Cases.{window, wentAt, regsAt, source, belowAt, dstAt, Calls, Rets, step-cases}
-use Rattle.course.proofs.Words.{moved-function, moved-dst, moved-place, moved-top, old-function, old-dst, old-place, caller-place, new-function, new-place, new-dst}
-use Rattle.course.proofs.Traps.{Own, Misses, OwnWay, straight-own}
+use Rattle.course.proofs.Cases.{window, wentAt, regsAt, source, belowAt, dstAt, step-cases}
+use Rattle.course.proofs.Words.{moved-function, moved-dst, moved-place, moved-top, old-function, old-dst, old-place, caller-place, new-place, new-dst}
+use Rattle.course.proofs.Traps.{Own, OwnWay, straight-own}
 use Rattle.course.proofs.Along.{Keeps}
 
 -- what a run rests on: every instruction has an opcode and allowed operands

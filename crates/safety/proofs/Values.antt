@@ -11,10 +11,9 @@ use lib.Seq.{sets, getD-set-same, getD-set-other, getD-take, getD-drop, length-s
 use borrow.Author.Tests.{ltb-true, ltb-false, eqb-true, eqb-false}
 use Rattle.value.specs.declared.word.CoreValue.the-variants as value
 use Rattle.value.specs.Value.{HoldsValue, wordOf}
-use Rattle.instr.specs.declared.Instr.{Instr}
 use Rattle.operate.specs.Values.{HoldValues, LoadsValue}
 use Rattle.image.specs.Program.{Program}
-use Rattle.image.specs.Parts.{functionsOf, regsOf, lengthOf, codeOf}
+use Rattle.image.specs.Parts.{regsOf, lengthOf, codeOf}
 use Rattle.straight.proofs.Holds.{straight-holds}
 use Rattle.exec.specs.declared.Ending.{Ending}
 use Rattle.exec.specs.declared.Ending.the-variants.{Returned, Trapped, FrameRoom, RegisterRoom}
@@ -28,7 +27,7 @@ use Rattle.exec.proofs.Parts.{length-part, length-put, getD-part, put-low, put-
 use Rattle.exec.proofs.Lists.{getD-sets-below, getD-sets-in, getD-sets-above, take-len}
 use Rattle.course.specs.Course.{after, charged, Stop, Course}
 use Rattle.course.specs.Course.Stop.{past, dry, acts}
-use Rattle.course.proofs.Cases.{window, regsAt, source, belowAt, dstAt, Calls, Rets, step-cases, window-fact}
+use Rattle.course.proofs.Cases.{window, regsAt, source, belowAt, dstAt, Rets, step-cases, window-fact}
 use Rattle.course.proofs.Words.{moved-function, moved-first, old-function, old-first, new-function, new-first, entry-function, entry-first}
 use Rattle.course.proofs.Entered.{entered-cases}
 use Rattle.course.proofs.Courses.{run-course}

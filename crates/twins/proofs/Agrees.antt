@@ -1,14 +1,14 @@
 -- Words that agree in two lists still do after the same stores, and words that are stored agree. Assumes nothing.
-use Prim.Native.Nat.{ℕ, zero, suc, _+_, _*_, _-_, _≤_, _<_, max}
-use mathlib.Core.Path.{_≡_, refl, sym, ap, _∙_, subst}
+use Prim.Native.Nat.{ℕ, suc, _+_, _-_, _≤_, _<_, max}
+use mathlib.Core.Path.{_≡_, refl, sym, _∙_, subst}
 use mathlib.Core.Bool.{Bool, true, false}
-use mathlib.Core.List.{List, [], _∷_, _++_}
+use mathlib.Core.List.{List, [], _∷_}
 use native.Mathlib.Nat.{le-max-left, le-max-right}
 use native.Mathlib.Omega.{arith}
-use lib.Dec.{ltb, leb, eqb}
-use lib.ListN.{length, getD, set, take, drop, length-set}
-use lib.Seq.{sets, getD-set-same, getD-set-other, getD-append-add, getD-take, getD-drop, length-take-le, length-sets, ext-getD}
-use borrow.Author.Tests.{ltb-true, ltb-false, leb-true, leb-false, eqb-true, eqb-false}
+use lib.Dec.{ltb, eqb}
+use lib.ListN.{length, getD, set, length-set}
+use lib.Seq.{sets, getD-set-same, getD-set-other, length-sets, ext-getD}
+use borrow.Author.Tests.{ltb-true, ltb-false, eqb-true, eqb-false}
 use Rattle.exec.specs.Lent.{part, put}
 use Rattle.exec.proofs.Parts.{length-part, length-put, getD-part, put-low, put-in, put-high}
 use Rattle.exec.proofs.Lists.{getD-sets-in}

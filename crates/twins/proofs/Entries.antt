@@ -1,7 +1,7 @@
 -- One program executed in two lent memories: neither their contents nor their sizes change status, value and fuel, unless one is
 -- refused for room. Assumes nothing.
-use Prim.Native.Nat.{ℕ, _+_, _≤_, _<_, max}
-use mathlib.Core.Path.{_≡_, refl, sym, ap, _∙_, subst}
+use Prim.Native.Nat.{ℕ, _+_, _≤_, max}
+use mathlib.Core.Path.{_≡_, refl, subst}
 use mathlib.Core.Bool.{Bool, true, false}
 use mathlib.Core.List.{List}
 use native.Mathlib.Omega.{arith}
@@ -13,13 +13,13 @@ use Rattle.runtime.specs.declared.CoreTrap.the-variants.{InvalidFunction}
 use Rattle.image.specs.Records.{RecordLayout}
 use Rattle.image.specs.Image.{imageFault}
 use Rattle.image.specs.Program.{Program, decode}
-use Rattle.image.specs.Parts.{functionsOf, regsOf}
+use Rattle.image.specs.Parts.{regsOf}
 use Rattle.exec.specs.declared.Ending.{Ending}
 use Rattle.exec.specs.declared.Ending.the-variants.{Trapped, FrameRoom, RegisterRoom}
 use Rattle.exec.specs.Price.{Price, Fair}
 use Rattle.exec.specs.Lent.{recordOf, unitWord}
 use Rattle.exec.specs.Run.{Final, final, run}
-use Rattle.exec.specs.Execute.{outcomeNumbers, outcomeOf, entryState, entered, Executed, executed, ended, execution}
+use Rattle.exec.specs.Execute.{entryState, entered, executed, ended, execution}
 use Rattle.course.specs.Course.{Refused}
 use Rattle.course.proofs.Words.{entry-function, entry-first}
 use Rattle.course.proofs.Entered.{entered-cases}

@@ -1,9 +1,8 @@
 -- Two runs from machines that are alike. Assumes nothing.
-use Prim.Native.Nat.{ℕ, zero, suc, _+_, _*_, _-_, _≤_, _<_}
+use Prim.Native.Nat.{ℕ, zero, suc, _+_, _-_, _≤_, _<_}
 use mathlib.Core.Path.{_≡_, refl, sym, ap, _∙_, subst}
 use mathlib.Core.List.{List}
 use native.Mathlib.Omega.{arith}
-use lib.ListN.{length, getD}
 use Rattle.runtime.specs.declared.CoreTrap.the-variants.{InvalidPc, FuelExceeded}
 use Rattle.image.specs.Program.{Program}
 use Rattle.image.specs.Parts.{lengthOf, codeOf}

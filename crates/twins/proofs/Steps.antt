@@ -1,9 +1,8 @@
 -- Two machines that are alike take the same step, or one of them is refused for room. Assumes nothing.
-use Prim.Native.Nat.{ℕ, suc, _+_, _*_, _-_, _≤_, _<_, max}
+use Prim.Native.Nat.{ℕ, _+_, _*_, _-_, _≤_, _<_, max}
 use mathlib.Core.Path.{_≡_, refl, sym, ap, _∙_, subst}
 use mathlib.Core.Bool.{Bool, true, false}
 use mathlib.Core.List.{List, _++_}
-use native.Mathlib.Nat.{le-max-left}
 use native.Mathlib.Omega.{arith}
 use lib.Dec.{ltb, leb, eqb}
 use lib.ListN.{length, getD, set, take, drop, replicate, length-set, length-append, length-replicate}
@@ -31,7 +30,7 @@ use Rattle.course.specs.Course.{Refused}
 use Rattle.course.proofs.Cases.{window-fact}
 use Rattle.course.proofs.Words.{moved-function, moved-first, old-function, old-first, new-function, new-first}
 use Rattle.twins.specs.Twins.{Agree, Alike}
-use Rattle.twins.proofs.Agrees.{less, part-same, set-agrees, put-agrees, sets-agree}
+use Rattle.twins.proofs.Agrees.{part-same, set-agrees, put-agrees, sets-agree}
 
 -- both go on and are alike, at least as far as before; or both end in the same way; or one is refused for room
 pub data Together (p : Program) (k m : ℕ) (o u : Stepped) : Type 0 where

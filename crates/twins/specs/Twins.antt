@@ -6,7 +6,7 @@ use lib.ListN.{length, getD}
 use Rattle.image.specs.Program.{Program}
 use Rattle.image.specs.Parts.{regsOf}
 use Rattle.exec.specs.Price.{Price}
-use Rattle.exec.specs.Lent.{frameWords, functionWord, firstWord, State, state}
+use Rattle.exec.specs.Lent.{frameWords, functionWord, firstWord, State}
 use Rattle.exec.specs.Run.{Final, later, costAt, run}
 use Rattle.exec.specs.Execute.{entryState}
 use Rattle.course.specs.Course.{after, Leads, charged}
