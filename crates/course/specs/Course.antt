@@ -55,11 +55,17 @@ charged p price most (suc n) s = costAt p price s + charged p price most n (next
 -- ---- a run that ends at s, where it has `left` units: how, and what it is charged there
 pub data Stop (p : Program) (price : Price) (most left : ℕ) (s : State) (what : Ending) (charge : ℕ) : Type 0 where
   -- the place is at or past the length: nothing
-  past : what ≡ Trapped InvalidPc → charge ≡ 0 → lengthOf p (topAt p s .function) ≤ topAt p s .place → Stop p price most left s what charge
+  past : what ≡ Trapped InvalidPc → charge ≡ 0
+      → lengthOf p (topAt p s .function) ≤ topAt p s .place
+      → Stop p price most left s what charge
   -- the charge does not fit: all that is left
-  dry : what ≡ Trapped FuelExceeded → charge ≡ left → Inside p s → left < costAt p price s → Stop p price most left s what charge
+  dry : what ≡ Trapped FuelExceeded → charge ≡ left
+      → Inside p s → left < costAt p price s
+      → Stop p price most left s what charge
   -- the instruction ends it, and writes nothing
-  acts : charge ≡ costAt p price s → Inside p s → costAt p price s ≤ left → step p most s ≡ stops s (Ends what) → Stop p price most left s what charge
+  acts : charge ≡ costAt p price s
+      → Inside p s → costAt p price s ≤ left → step p most s ≡ stops s (Ends what)
+      → Stop p price most left s what charge
 
 -- it is refused for room
 abbrev pub Refused : Ending → Type 0

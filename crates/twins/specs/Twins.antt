@@ -53,7 +53,8 @@ pub record UpTo (p : Program) (price : Price) (most fuel k m : ℕ) (s t : State
   pub frames : f .frames ≡ after p most steps s .frames
   pub regs : f .regs ≡ after p most steps s .regs
   pub used : f .used ≡ charged p price most steps t + costAt p price (after p most steps t)
-  pub goesOn : g ≡ later (charged p price most steps t) (run p price most (fuel - charged p price most steps t) (after p most steps t))
+  pub goesOn : g
+      ≡ later (charged p price most steps t) (run p price most (fuel - charged p price most steps t) (after p most steps t))
 
 -- an execution that was refused for room, f with the lent words fr and rg, beside one that was not, g with fr′ and rg′
 pub data Refusal (p : Program) (price : Price) (most fuel k m : ℕ) (fr rg fr′ rg′ : List ℕ) (f g : Final) : Type 0 where
