@@ -8,6 +8,7 @@ use mathlib.Core.Logic.{_≢_}
 use native.Mathlib.Omega.{arith}
 use lib.Dec.{ltb}
 use lib.ListN.{length}
+use borrow.Author.Tests.{leb-false}
 use Rattle.basis.specs.Choice.{pick}
 use Rattle.runtime.specs.declared.CoreTrap.{CoreTrap}
 use Rattle.runtime.specs.declared.CoreTrap.the-variants.{InvalidPc, InvalidRegister, TypeMismatch, DivisionByZero, IntegerOverflow, FuelExceeded, CallDepthExceeded, InvalidFunction, AssertFailed, ExplicitTrap}
@@ -19,12 +20,12 @@ use Rattle.exec.specs.declared.Step.{Step}
 use Rattle.exec.specs.declared.Step.the-variants.{Go, Ends}
 use Rattle.exec.specs.Price.{Price, Fair, unit}
 use Rattle.exec.specs.Lent.{State, state}
-use Rattle.exec.specs.Step.{Stepped, stops, nextInstr, step, isPast}
+use Rattle.exec.specs.Step.{Stepped, stepped, stops, nextInstr, step, isPast, Inside}
 use Rattle.exec.specs.Run.{Final, costAt, run}
 use Rattle.exec.specs.Begun.{begunAfter, begunFor, begun}
 use Rattle.exec.specs.Execute.{entryState, entered}
 use Rattle.exec.proofs.Runs.{unit-fair}
-use Rattle.course.specs.Course.{ahead, next, after, trail, charged, Stop, Course, begunIn, Fuelled}
+use Rattle.course.specs.Course.{ahead, next, after, trail, GoesOn, Leads, Begin, charged, Stop, Course, begunIn, Fuelled}
 use Rattle.course.specs.Course.Stop.{past, dry, acts}
 use Rattle.course.proofs.Cases.{step-cases, wentAt, window}
 use Rattle.course.proofs.Courses.{endCode, run-course}
@@ -135,15 +136,54 @@ module _ (p : Program) (price : Price) (most : ℕ) where
   pub begun-steps : (fuel : ℕ) (s : State) → begun p price most fuel s ≡ trail p most (length (begun p price most fuel s)) s
   begun-steps fuel s = for-trail fuel fuel s
 
+-- ---- and at each an instruction begins
+module _ (p : Program) (price : Price) (most : ℕ) where
+  -- one more before them
+  grow : (s : State) → Inside p s → GoesOn (step p most s .answer) → (n : ℕ) → Begin p most n (next p most s) → Begin p most (suc n) s
+  unfolding Begin Leads after
+  grow s i g zero h = (tt, i)
+  grow s i g (suc n) h = ((i, (g, h .0)), h .1)
+
+  lone : (s : State) → Inside p s → Begin p most 1 s
+  unfolding Begin Leads after
+  lone s i = (tt, i)
+
+  after-begin : (s : State) → Inside p s → (x : Step) (fr rg : List ℕ) (k : State → List State) → step p most s ≡ stepped x fr rg
+      → ((t : State) → Begin p most (length (k t)) t) → Begin p most (suc (length (begunAfter x fr rg k))) s
+  after-begin s i (Go d) fr rg k e h =
+      let t : next p most s ≡ state fr rg d = ap (λ (o : Stepped). ahead s (o .answer) (o .frames) (o .regs)) e in
+      grow s i (subst GoesOn (sym (ap (λ (o : Stepped). o .answer) e)) tt) (length (k (state fr rg d)))
+      (subst (Begin p most (length (k (state fr rg d)))) (sym t) (h (state fr rg d)))
+  after-begin s i (Ends x) fr rg k e h = lone s i
+
+  for-begin : (n left : ℕ) (s : State) → Begin p most (length (begunFor p price most n left s)) s
+  unfolding begunFor Begin
+  for-begin zero left s = tt
+  for-begin (suc n) left s =
+      go (isPast p s) refl (ltb left (costAt p price s))
+      (λ i. after-begin s i (step p most s .answer) (step p most s .frames) (step p most s .regs) (λ t. begunFor p price most n (left - costAt p price s) t) refl (λ t. for-begin n (left - costAt p price s) t))
+    where
+      later : List State
+      later = begunAfter (step p most s .answer) (step p most s .frames) (step p most s .regs) (λ t. begunFor p price most n (left - costAt p price s) t)
+
+      go : (b : Bool) → isPast p s ≡ b → (c : Bool) → (Inside p s → Begin p most (suc (length later)) s) → Begin p most (length (pick b [] (pick c [] (s ∷ later)))) s
+      go true e c h = tt
+      go false e true h = tt
+      go false e false h = h (leb-false _ _ e)
+
+  pub begun-begin : (fuel : ℕ) (s : State) → Begin p most (length (begun p price most fuel s)) s
+  begun-begin fuel s = for-begin fuel fuel s
+
 -- ---- an execution
 pub fuelled : (p : Program) (most fuel : ℕ) (fr rg : List ℕ) → Fuelled p most fuel fr rg (entered p unit most fuel fr rg) (begunIn p unit most fuel fr rg)
-unfolding trail
+unfolding trail Begin
 fuelled p most fuel fr rg =
     begun-cases p unit most fuel fr rg (Fuelled p most fuel fr rg)
-    (λ e no. record { within = omega arith; whole = λ q. absurd (no q); counts = refl; steps = refl })
+    (λ e no. record { within = omega arith; whole = λ q. absurd (no q); counts = refl; steps = refl; begin = tt })
     (record {
       within = never-above p unit unit-fair most fuel (entryState p fr rg);
       whole = whole-limit p unit unit-fair most fuel (entryState p fr rg);
       counts = used-begun p most fuel (entryState p fr rg);
       steps = begun-steps p unit most fuel (entryState p fr rg);
+      begin = begun-begin p unit most fuel (entryState p fr rg);
     })

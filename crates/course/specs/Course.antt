@@ -47,6 +47,11 @@ unfoldable pub Leads : Program → ℕ → ℕ → State → Type 0
 Leads p most zero s = Unit {0}
 Leads p most (suc n) s = Inside p s × (GoesOn (step p most s .answer) × Leads p most n (next p most s))
 
+-- n instructions begin, one after the other: each step before the last is one of an instruction and goes on, and the last is at one
+unfoldable pub Begin : Program → ℕ → ℕ → State → Type 0
+Begin p most zero s = Unit {0}
+Begin p most (suc n) s = Leads p most n s × Inside p (after p most n s)
+
 -- what they are charged
 unfoldable pub charged : Program → Price → ℕ → ℕ → State → ℕ
 charged p price most zero s = 0
@@ -93,10 +98,11 @@ begunIn p price most fuel fr rg =
     (pick (ltb (length rg) (regsOf p (p .entry))) []
     (begun p price most fuel (entryState p fr rg))))
 
--- the fuel that an execution uses is never above the limit, is the whole limit on FuelExceeded, and counts the instructions begun,
--- which are steps from the entry frame on
-pub record Fuelled (p : Program) (most fuel : ℕ) (fr rg : List ℕ) (f : Final) (begins : List State) : Type 0 where
+-- the fuel that an execution uses is never above the limit, is the whole limit on FuelExceeded, and counts the states at which
+-- instructions begin; those are the steps from the entry frame on, and at each of them one does begin
+pub record Fuelled (p : Program) (most fuel : ℕ) (fr rg : List ℕ) (f : Final) (states : List State) : Type 0 where
   pub within : f .used ≤ fuel
   pub whole : f .what ≡ Trapped FuelExceeded → f .used ≡ fuel
-  pub counts : f .used ≡ length begins
-  pub steps : begins ≡ trail p most (length begins) (entryState p fr rg)
+  pub counts : f .used ≡ length states
+  pub steps : states ≡ trail p most (length states) (entryState p fr rg)
+  pub begin : Begin p most (length states) (entryState p fr rg)
