@@ -3,6 +3,7 @@
 
 mod ask;
 mod case;
+mod laws;
 mod measure;
 mod tally;
 mod worked;
@@ -14,11 +15,13 @@ use std::io::{self, Write};
 use oracle::digest::digest;
 use oracle::image;
 use oracle::random::SplitMix64;
-use oracle::run::of_program;
+use oracle::run::{describe, of_program};
+use oracle::verdict::Answer;
 
 use crate::validate::cut;
 use ask::{differing, Ask, Outcome};
 use case::{Case, Setting};
+use laws::Known;
 use measure::Scratch;
 use tally::Tally;
 use worked::{Worked, DIGESTS};
@@ -133,12 +136,15 @@ fn case_fault<'a>(
     }
     for (setting, ask) in case.asks(number) {
         let expected = ask.by_reading();
-        let fault =
-            agreement_fault(setting, &expected).or_else(|| engine_fault(engine, &ask, &expected));
+        let known = case.known(&ask);
+        let fault = agreement_fault(setting, &expected)
+            .or_else(|| engine_fault(engine, &ask, &expected))
+            .or_else(|| law_fault(known, &expected.answer));
         if let Some(fault) = fault {
             return Some((fault, Some(ask)));
         }
         tally.add(&expected.answer);
+        tally.add_known(known, &expected.answer);
         tally.add_room_just_enough(setting.is_just_enough(ask.room));
     }
     None
@@ -158,6 +164,12 @@ fn agreement_fault(setting: &Setting, expected: &Outcome) -> Option<String> {
         .flatten()
         .find(|answer| *answer != rust)?;
     Some(differing("the reading", rust, other))
+}
+
+/// All sides answer alike; what they answer must keep the laws of every run.
+fn law_fault(known: Known, answer: &Answer) -> Option<String> {
+    let law = laws::broken(known, answer)?;
+    Some(format!("{law}\n  all answer: {}", describe(answer)))
 }
 
 /// What is wrong with the engine's answer, or with what it left in memory.

@@ -74,6 +74,9 @@ pub fn program(seed: u64, number: u64) -> Program {
     if random.once_in(4) {
         misplace::some(&mut random, &mut program);
     }
+    if random.once_in(24) {
+        misplace::past_the_end(&mut random, &mut program);
+    }
     program
 }
 

@@ -6,10 +6,11 @@ use oracle::image;
 use oracle::random::SplitMix64;
 use oracle::reading::{Limits, RECORD};
 use oracle::run::of_program;
-use oracle::verdict::Answer;
+use oracle::verdict::{self, Answer};
 use semantic_core_runtime::CoreTrap;
 
 use super::ask::{Ask, Room};
+use super::laws::Known;
 use super::measure::{enough, Measure, Scratch};
 
 /// One case in so many is an image of the admission's cases: a quarter of them
@@ -27,6 +28,10 @@ const MOST_LENT: usize = 4_096;
 pub struct Case {
     pub image: Vec<u8>,
     pub settings: Vec<Setting>,
+    /// The Rust admits it, under the widest profile there is.
+    admitted: bool,
+    /// The most registers that one of its functions has.
+    largest: u16,
 }
 
 /// Limits, how the run ends with enough room, and the rooms to lend.
@@ -67,7 +72,24 @@ impl Case {
                 }
             })
             .collect();
-        Self { image, settings }
+        let admitted = verdict::of_image(&image, generate::BOUNDS).number == 0;
+        Self {
+            image,
+            settings,
+            admitted,
+            largest,
+        }
+    }
+
+    /// What is known of a run beside its answer.
+    pub fn known(&self, ask: &Ask) -> Known {
+        let needed = enough(ask.limits.max_call_depth, u64::MAX, self.largest);
+        let Room { frames, registers } = ask.room;
+        Known {
+            limits: ask.limits,
+            admitted: self.admitted,
+            enough: frames >= needed.frames && registers >= needed.registers,
+        }
     }
 
     /// All that is asked, in order, with the setting that each belongs to.

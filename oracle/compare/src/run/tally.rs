@@ -5,11 +5,13 @@ use std::fmt;
 
 use oracle::run::{ending, ENDINGS};
 use oracle::verdict::Answer;
+use semantic_core_runtime::CoreTrap;
 
+use super::laws::{ends_with, Known};
 use super::measure::{Measure, OPCODES};
 
 /// What else must occur.
-const OTHERS: [&str; 7] = [
+const OTHERS: [&str; 10] = [
     "FrameRoom at the entry",
     "FrameRoom at a Call",
     "RegisterRoom at the entry",
@@ -17,6 +19,9 @@ const OTHERS: [&str; 7] = [
     "3 frames deep or more",
     "room just enough",
     "the fuel just enough",
+    "document 01's room",
+    "an admitted program",
+    "an admitted one at its end",
 ];
 
 #[derive(Debug)]
@@ -67,6 +72,15 @@ impl Tally {
 
     pub fn add_fuel_just_enough(&mut self, enough: bool) {
         self.others[6] += u64::from(enough);
+    }
+
+    /// Counts where the laws of runs had something to say.
+    pub fn add_known(&mut self, known: Known, answer: &Answer) {
+        let ran = matches!(answer.number, 0 | 6 | 7);
+        let at_its_end = known.admitted && ends_with(answer, CoreTrap::InvalidPc);
+        self.others[7] += u64::from(ran && known.enough);
+        self.others[8] += u64::from(ran && known.admitted);
+        self.others[9] += u64::from(at_its_end);
     }
 
     /// How many questions were asked.

@@ -8,7 +8,7 @@ use crate::fields::{self, Field};
 use crate::image::Record;
 use crate::program::{Function, Program};
 use crate::random::SplitMix64;
-use crate::records::plain;
+use crate::records::{jump, plain};
 
 /// Where an instruction stands: its function, and its place in there.
 type Place = (usize, usize);
@@ -71,6 +71,17 @@ pub fn any_call(random: &mut SplitMix64, program: &mut Program) -> Option<()> {
             _ => call.w = u32::from(regs.saturating_add(1)),
         }
     }
+    Some(())
+}
+
+/// Lets a function jump over its last instruction, if that is a Ret, to a Nop
+/// behind it. Admission asks for a Ret anywhere, so only a run can show it.
+pub fn past_the_end(random: &mut SplitMix64, program: &mut Program) -> Option<()> {
+    let instrs = &mut some_function(random, program)?.instrs;
+    let behind = instrs.len() as u32 + 1;
+    let last = instrs.last_mut().filter(|record| record.opcode == 55)?;
+    let ret = std::mem::replace(last, jump(behind));
+    instrs.extend([ret, plain(0)]);
     Some(())
 }
 

@@ -126,6 +126,20 @@ fn a_program_in_order_does_something() {
     assert!(steps > RUNS * 3 / 4, "{steps}");
 }
 
+/// It is admitted all the same, and many runs meet their function's end.
+#[test]
+fn a_function_that_goes_past_its_end_is_admitted() {
+    let mut past = 0;
+    for number in 0..RUNS {
+        let mut program = in_order(number);
+        misplace::past_the_end(&mut SplitMix64::for_case(2, number), &mut program);
+        let answer = of_image(&program.image(), CoreAdmissionProfile::safe());
+        assert_eq!(answer, Answer::new(0, &[]), "program {number}");
+        past += u64::from(run(&program).status == CoreStatus::Trapped(CoreTrap::InvalidPc));
+    }
+    assert!(past > RUNS / 4, "{past}");
+}
+
 #[test]
 fn most_admitted_cases_do_something_when_run() {
     let (mut admitted, mut working) = (0, 0);
