@@ -23,8 +23,8 @@ use Rattle.exec.specs.declared.Ending.{Ending}
 use Rattle.exec.specs.declared.Ending.the-variants as ending
 use Rattle.exec.specs.Price.{unit}
 use Rattle.exec.specs.Run.{Final}
-use Rattle.exec.specs.Execute.{outcomeNumbers, outcomeOf, executed, ended, execution}
-use Rattle.capi.specs.Boundary.{numberOf, wordsOf, withDigest, Crossing, crossed}
+use Rattle.exec.specs.Execute.{outcomeNumbers, outcomeOf, Executed, executed, ended, execution}
+use Rattle.capi.specs.Boundary.{numberOf, wordsOf, withDigest, Crossing, crossing, crossed}
 use Rattle.capi.proofs.knit_validate.Reads as knit_validate
 use Rattle.capi.proofs.knit_execute.Reads as knit_execute
 use Rattle.course.specs.Course.{Refused}
@@ -77,6 +77,18 @@ answer-crosses bytes most fuel fr rg = go (imageFault form1 bytes) (image-number
     go [] h = run-crosses (f .what) (f .used)
     go (n ∷ ns) h = fault-crosses (f .what) (f .used) n ns (wordsOf (withDigest (n ∷ ns))) (h .0) (h .1)
 
+told-crosses : (bytes : List ℕ) (most fuel : ℕ) (fr rg : List ℕ) (n : ℕ) (words fr′ rg′ : List ℕ) → crossing n words fr′ rg′ ≡ crossed (execution form1 unit bytes most fuel fr rg)
+    → Crosses (runs (decode form1 bytes) most fuel fr rg .what) (runs (decode form1 bytes) most fuel fr rg .used) n words
+unfolding crossed
+told-crosses bytes most fuel fr rg n words fr′ rg′ told =
+    let f : Final = runs (decode form1 bytes) most fuel fr rg in
+    subst (λ (c : Crossing). Crosses (f .what) (f .used) (c .number) (c .words)) (sym told) (answer-crosses bytes most fuel fr rg)
+
+-- the answer's words hang on the answer alone
+words-of : (x : Executed) (n : ℕ) (words fr rg : List ℕ) → crossing n words fr rg ≡ crossed x → words ≡ wordsOf (withDigest (x .answer))
+unfolding crossed
+words-of x n words fr rg told = ap (λ (c : Crossing). c .words) told
+
 -- a verdict's number is 0 only where nothing is wrong
 fine : (answer : List ℕ) → Numbered 20 answer → numberOf answer ≡ 0 → answer ≡ []
 unfolding numberOf
@@ -107,10 +119,7 @@ module _ (κs : _) (a : _) (n : _) (e : _) (told : knit_execute.Learnt κs a n e
   f = runs (decode form1 bytes) most limit frames regs
 
   crosses : Crosses (f .what) (f .used) n words
-  unfolding crossed
-  crosses =
-      let k : Crosses (f .what) (f .used) (numberOf (withDigest (execution form1 unit bytes most limit frames regs .answer))) (wordsOf (withDigest (execution form1 unit bytes most limit frames regs .answer))) = answer-crosses bytes most limit frames regs in
-      subst (λ (c : Crossing). Crosses (f .what) (f .used) (c .number) (c .words)) (sym told) k
+  crosses = told-crosses bytes most limit frames regs n words (now (e .1 .1 .1 .0)) (now (e .1 .1 .1 .1 .0)) told
 
   trapped-so : n ≡ 0 → (t : _) → getD words 0 0 ≡ statusWord (Trapped t) → f .what ≡ ending.Trapped t
   trapped-so z t q = status-trap (f .what) t (sym (crosses .status z) ∙ q) (crosses .done z)
@@ -135,3 +144,19 @@ module _ (κs : _) (a : _) (n : _) (e : _) (told : knit_execute.Learnt κs a n e
       let none : verdict form1 (now (b .0)) profile ≡ [] = fine (verdict form1 (now (b .0)) profile) (verdict-numbered form1 (now (b .0)) profile) (sym (judged .0) ∙ admitted) in
       let h = acceptance .safe form1 bytes profile (ap (λ (l : List ℕ). verdict form1 l profile) (sym same) ∙ none) most limit frames regs in
       (λ q. h .registers (trapped-so z InvalidRegister q), λ q. h .functions (trapped-so z InvalidFunction q))
+
+  -- another call with the same image, fuel and depth limit, in whatever memory, has the same words, the digest among them, if both are 0
+  pub same-crossed : (κt : _) (b : _) (m : _) (g : _) → knit_execute.Learnt κt b m g → now (b .0) ≡ now (a .0) → b .1 .0 ≡ a .1 .0 → b .1 .1 .0 ≡ a .1 .1 .0
+      → n ≡ 0 → m ≡ 0 → now (g .1 .1 .1 .1 .1 .0) ≡ now (e .1 .1 .1 .1 .1 .0)
+  same-crossed κt b m g also image fuel depth z y =
+      let frames′ : List ℕ = now (b .1 .1 .1 .0) in
+      let regs′ : List ℕ = now (b .1 .1 .1 .1 .0) in
+      let words′ : List ℕ = now (g .1 .1 .1 .1 .1 .0) in
+      let last : List ℕ = now (g .1 .1 .1 .0) in
+      let rest : List ℕ = now (g .1 .1 .1 .1 .0) in
+      let two : crossing m words′ last rest ≡ crossed (execution form1 unit bytes most limit frames′ regs′) =
+      also ∙ (λ i. crossed (execution form1 unit (image i) (depth i) (fuel i) frames′ regs′)) in
+      let served = told-crosses bytes most limit frames′ regs′ m words′ last rest two .done y in
+      words-of (execution form1 unit bytes most limit frames′ regs′) m words′ last rest two
+      ∙ ap (λ (l : List ℕ). wordsOf (withDigest l)) (acceptance .answers form1 bytes most limit frames regs frames′ regs′ (crosses .done z) served)
+      ∙ sym (words-of (execution form1 unit bytes most limit frames regs) n words (now (e .1 .1 .1 .0)) (now (e .1 .1 .1 .1 .0)) told)

@@ -6,7 +6,7 @@ use mathlib.Core.List.{List, [], _∷_}
 use mathlib.Core.Logic.{_≢_}
 use native.Mathlib.Omega.{arith}
 use denote.Ref.{now}
-use lib.ListN.{getD}
+use lib.ListN.{getD, drop}
 use Rattle.basis.specs.Choice.{pick}
 use Rattle.basis.specs.Answers.{isFine}
 use Rattle.runtime.specs.declared.CoreTrap.{CoreTrap}
@@ -28,7 +28,7 @@ use Rattle.exec.specs.declared.CoreOutcome.{CoreOutcome}
 use Rattle.exec.specs.declared.CoreOutcome.the-variants.{Done, Image, FrameRoom, RegisterRoom}
 use Rattle.exec.specs.Price.{unit}
 use Rattle.exec.specs.Run.{Final}
-use Rattle.exec.specs.Execute.{outcomeNumbers, outcomeOf, Executed, executed, ended, execution}
+use Rattle.exec.specs.Execute.{resultNumbers, outcomeNumbers, outcomeOf, Executed, executed, ended, execution}
 use Rattle.exec.proofs.execute_outcome.Reads as execute_outcome
 use Rattle.course.specs.Course.{Refused}
 use Rattle.room.specs.Room.{Enough}
@@ -146,3 +146,19 @@ module _ (κs : _) (a : _) (r : _) (e : _) (told : execute_outcome.Learnt κs a 
       let none = sym judged ∙ ap verdictNumbers admitted in
       let h = acceptance .safe form1 bytes (b .1 .0) (ap (λ (l : List ℕ). verdict form1 l (b .1 .0)) (sym same) ∙ none) most limit frames regs in
       (λ z. h .registers (trapped-so x InvalidRegister q z), λ z. h .functions (trapped-so x InvalidFunction q z))
+
+  -- another call with the same image, fuel and depth limit, in whatever memory, has the same result, if both have one
+  pub same-answered : (κt : _) (b : _) (v : _) (g : _) → execute_outcome.Learnt κt b v g
+      → now (b .0) ≡ now (a .0) → b .1 .0 .fuel ≡ a .1 .0 .fuel → b .1 .0 .«max_call_depth» ≡ a .1 .0 .«max_call_depth»
+      → (x y : CoreResult) → r ≡ Done x → v ≡ Done y → resultNumbers y ≡ resultNumbers x
+  same-answered κt b v g also image fuel depth x y q z =
+      let frames′ : List ℕ = now (b .1 .1 .0) in
+      let regs′ : List ℕ = now (b .1 .1 .1 .0) in
+      let one : outcomeNumbers r ≡ execution form1 unit bytes most limit frames regs .answer = ap (λ (o : Executed). o .answer) told in
+      let two : outcomeNumbers v ≡ execution form1 unit bytes most limit frames′ regs′ .answer =
+      ap (λ (o : Executed). o .answer) also ∙ (λ i. execution form1 unit (image i) (depth i) (fuel i) frames′ regs′ .answer) in
+      let kept = subst (Tells (f .what) (f .used)) q tell .1 .1 in
+      let h : Final = runs (decode form1 bytes) most limit frames′ regs′ in
+      let served = subst (Tells (h .what) (h .used)) z (answered bytes most limit frames′ regs′ v two) .1 .1 in
+      let same = two ∙ acceptance .answers form1 bytes most limit frames regs frames′ regs′ kept served ∙ sym one in
+      ap (drop 1) (ap outcomeNumbers (sym z) ∙ same ∙ ap outcomeNumbers q)
