@@ -1,5 +1,5 @@
--- The worked cases that document 01 marks P, one row for each, and its own image; both sides of enough room; and for each rule of
--- admission a program that breaks it alone and meets what the rule is there to rule out.
+-- The worked cases that document 01 marks P, one row for each, and its own image; both sides of enough room; for each rule of
+-- admission a program that breaks it alone and meets what the rule is there to rule out; and one that breaks none and traps InvalidPc.
 use Prim.Native.Nat.{ℕ, _^_}
 use mathlib.Core.Path.{_≡_}
 use mathlib.Core.List.{List, [], _∷_}
@@ -99,6 +99,10 @@ nowhere =
 abbrev pub headless : Program
 headless = record { entry = 1; functions = record { name = 0; regs = 1; code = Ret 0 ∷ [] } ∷ [] }
 
+-- one that returns nowhere on its way: it jumps over its Ret to the last instruction and goes on behind it
+abbrev pub overshooting : Program
+overshooting = alone 1 (JumpTo 2 ∷ Ret 0 ∷ Nop ∷ [])
+
 -- the image that document 01 writes out: one function of one register, which loads -1 and returns it
 abbrev pub documentImage : List ℕ
 documentImage =
@@ -180,6 +184,8 @@ edges =
     ∷ Edge.breaking nowhere (InvalidRegister 0 5) (Trapped trap.InvalidRegister) 2
     ∷ Edge.breaking (alone 1 []) (MissingReturn 0) (Trapped InvalidPc) 0
     ∷ Edge.breaking headless (InvalidEntry 1) (Trapped InvalidFunction) 0
+    ∷ Edge.admission overshooting Admitted
+    ∷ Edge.running overshooting 64 9 (Trapped InvalidPc) 2
     ∷ []
 
 -- every row of a list
