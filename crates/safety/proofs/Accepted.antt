@@ -7,7 +7,7 @@ use native.Mathlib.Nat.{not-suc-le-zero, le-of-suc-le-suc}
 use native.Mathlib.Omega.{arith}
 use lib.ListN.{length}
 use Rattle.runtime.specs.declared.CoreTrap.{CoreTrap}
-use Rattle.runtime.specs.declared.CoreTrap.the-variants.{InvalidPc, InvalidRegister, TypeMismatch, DivisionByZero, IntegerOverflow, FuelExceeded, CallDepthExceeded, InvalidFunction, AssertFailed, ExplicitTrap}
+use Rattle.runtime.specs.declared.CoreTrap.the-variants.{InvalidPc, InvalidRegister, FuelExceeded, InvalidFunction}
 use Rattle.runtime.specs.declared.CoreAdmissionProfile.{CoreAdmissionProfile}
 use Rattle.runtime.specs.Trap.{trapCode}
 use Rattle.image.specs.Records.{RecordLayout, headerOf, functionNo}
@@ -28,7 +28,7 @@ use Rattle.exec.specs.Step.{stops, step, Inside}
 use Rattle.exec.specs.Run.{final, run}
 use Rattle.exec.specs.Execute.{entryState, entered}
 use Rattle.exec.proofs.Entry.{entry-stands}
-use Rattle.course.specs.Course.{after, charged, Stop, Course}
+use Rattle.course.specs.Course.{after, charged, Refused, Stop, Course}
 use Rattle.course.specs.Course.Stop.{past, dry, acts}
 use Rattle.course.proofs.Courses.{endCode, run-course}
 use Rattle.course.proofs.Words.{entry-function, entry-place}
@@ -40,18 +40,6 @@ use Rattle.safety.proofs.Linked.{Sure, Linked, SoundEnd, step-linked}
 -- two endings told apart by their codes
 unlike : (e f : Ending) → (endCode e ≡ endCode f → ⊥) → e ≢ f
 unlike e f h q = h (ap endCode q)
-
-trap-small : (t : CoreTrap) → trapCode t < 10
-trap-small InvalidPc = omega arith
-trap-small InvalidRegister = omega arith
-trap-small TypeMismatch = omega arith
-trap-small DivisionByZero = omega arith
-trap-small IntegerOverflow = omega arith
-trap-small FuelExceeded = omega arith
-trap-small CallDepthExceeded = omega arith
-trap-small InvalidFunction = omega arith
-trap-small AssertFailed = omega arith
-trap-small ExplicitTrap = omega arith
 
 -- every function has an instruction
 abbrev Peopled : Program → Type 0
@@ -88,8 +76,7 @@ module _ (p : Program) (price : Price) (fair : Fair price) (most fuel : ℕ) (su
     length-met : run p price most fuel s .what ≡ Trapped InvalidPc → topAt p last .place ≡ lengthOf p (topAt p last .function)
     length-met e = go (c .stop)
       where
-        go : AtLast
-            → topAt p last .place ≡ lengthOf p (topAt p last .function)
+        go : AtLast → topAt p last .place ≡ lengthOf p (topAt p last .function)
         go (past w z l) =
             let some = last-linked .good .some in
             let m : topAt p last .place ≤ lengthOf p (topAt p last .function) = last-linked .places (last .depth - 1) (omega arith) in
@@ -151,8 +138,8 @@ module _ (L : RecordLayout) (b : List ℕ) (profile : CoreAdmissionProfile) (W :
       let p : Program = decode L b in
       entered-cases p price most fuel fr rg (Safe p most (entryState p fr rg)) (record {
         unknown = λ l. absurd (omega (arith, A .entry));
-        frames = λ _ _. refused FrameRoom (λ t e. omega (arith, trap-small t, ap endCode e));
-        registers = λ _ _ _. refused RegisterRoom (λ t e. omega (arith, trap-small t, ap endCode e));
+        frames = λ _ _. refused FrameRoom (λ t e. subst Refused e tt);
+        registers = λ _ _ _. refused RegisterRoom (λ t e. subst Refused e tt);
         runs = λ known room space. entry-safe p price fair most fuel sure fr rg known room space peopled;
       })
     where

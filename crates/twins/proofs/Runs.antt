@@ -71,9 +71,6 @@ module _ (p : Program) (price : Price) (fair : Fair price) (most : ℕ) where
   follows zero fuel k m s t h l a r = record { first = tt; second = tt; charge = refl; framesTo = k; regsTo = m; frames = omega arith; regs = omega arith; alike = h }
   follows (suc n) fuel k m s t h l a r = go (step-alike p k m s t h most) (λ K M x. follows n (fuel - costAt p price s) K M (next p most s) (next p most t) x (l .1 .1) (omega arith))
     where
-      rest : ℕ
-      rest = charged p price most n (next p most s)
-
       here : costAt p price t ≡ costAt p price s
       here = cost-alike p k m s t h price
 
