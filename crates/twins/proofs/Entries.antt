@@ -127,6 +127,7 @@ module _ (p : Program) (k m : ℕ) (fr rg fr′ rg′ : List ℕ) (hf : Agree k 
             regs = omega (arith, u .abreast .regs);
             alike = u .abreast .alike;
           };
+          refuses = u .refuses;
           frames = u .frames;
           regs = u .regs;
           used = u .used;

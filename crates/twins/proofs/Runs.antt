@@ -136,12 +136,18 @@ module _ (p : Program) (price : Price) (fair : Fair price) (most : ℕ) where
     up-to r = record {
       steps = c .steps;
       abreast = w;
+      refuses = refusing (c .stop);
       frames = c .frames;
       regs = c .regs;
       used = spent (c .stop);
       goesOn = run-after p price most fair (c .steps) fuel t (w .second) (omega (arith, w .charge, c .affords));
     }
       where
+        refusing : Stop p price most left u (f .what) (c .last) → step p most u ≡ stops u (Ends (f .what))
+        refusing (past e z l) = absurd (subst Refused e r)
+        refusing (dry e z i l) = absurd (subst Refused e r)
+        refusing (acts z i l q) = q
+
         spent : Stop p price most left u (f .what) (c .last) → f .used ≡ charged p price most (c .steps) t + costAt p price v
         spent (past e z l) = absurd (subst Refused e r)
         spent (dry e z i l) = absurd (subst Refused e r)

@@ -7,6 +7,8 @@ use Rattle.image.specs.Program.{Program}
 use Rattle.image.specs.Parts.{regsOf}
 use Rattle.exec.specs.Price.{Price}
 use Rattle.exec.specs.Lent.{frameWords, functionWord, firstWord, State}
+use Rattle.exec.specs.declared.Step.the-variants.{Ends}
+use Rattle.exec.specs.Step.{stops, step}
 use Rattle.exec.specs.Run.{Final, later, costAt, run}
 use Rattle.exec.specs.Execute.{entryState}
 use Rattle.course.specs.Course.{after, Leads, charged}
@@ -45,11 +47,13 @@ pub record Abreast (p : Program) (price : Price) (most k m n : ℕ) (s t : State
   pub regs : m ≤ regsTo
   pub alike : Alike p framesTo regsTo (after p most n s) (after p most n t)
 
--- the run f from s, refused for room, is the run g from t up to the refused push: so many steps later they are abreast, the lent words
--- of f are those there, its fuel used is what g has used there, with the Call that f was refused for, and g goes on from there
+-- the run f from s, refused for room, is the run g from t up to the refused push: so many steps later they are abreast, the step there
+-- is what f is refused for, the lent words of f are those there, its fuel used is what g has used there, with the Call that f was
+-- refused for, and g goes on from there
 pub record UpTo (p : Program) (price : Price) (most fuel k m : ℕ) (s t : State) (f g : Final) : Type 0 where
   pub steps : ℕ
   pub abreast : Abreast p price most k m steps s t
+  pub refuses : step p most (after p most steps s) ≡ stops (after p most steps s) (Ends (f .what))
   pub frames : f .frames ≡ after p most steps s .frames
   pub regs : f .regs ≡ after p most steps s .regs
   pub used : f .used ≡ charged p price most steps t + costAt p price (after p most steps t)
