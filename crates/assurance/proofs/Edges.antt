@@ -21,4 +21,4 @@ use Rattle.assurance.specs.Edges.{Holds, Each, edges}
 
 pub edges-hold : Each edges
 unfolding Holds Each edges rules ruleOf readAs readTwo readDividing readShortcut computed firstOf profileFault forms fieldsOf registerFault jumpFault callFault windowFault fieldFault fieldsFault instrFault returnsBefore codeFault functionFault programFault byteAt halfAt wordAt headerOf functionAt form1Instr startOf layoutHolds rowFault tableFault within recordHolds recordFault imageFault listed functionOf decode verdict valueAt flowOf storing asked stored done straight unit tooDeep called handed returned left acted step runFor valueIn entered execution windowFits pushedFrames pushedRegs
-edges-hold = (refl, (refl, (refl, (refl, (refl, (refl, (refl, (refl, (refl, (refl, (refl, (refl, (refl, ((refl, refl), ((refl, refl), ((refl, refl), (refl, ((refl, refl), ((refl, refl), ((refl, refl), ((refl, refl), ((refl, refl), ((refl, refl), ((refl, (refl, refl)), ((refl, (refl, refl)), ((refl, (refl, refl)), ((refl, (refl, refl)), ((refl, (refl, refl)), ((refl, (refl, refl)), ((refl, (refl, refl)), (refl, ((refl, refl), tt))))))))))))))))))))))))))))))))
+edges-hold = (refl, (refl, (refl, (refl, (refl, (refl, (refl, (refl, (refl, (refl, (refl, (refl, (refl, ((refl, refl), ((refl, refl), ((refl, refl), (refl, ((refl, refl), ((refl, refl), ((refl, refl), ((refl, refl), ((refl, refl), ((refl, refl), ((refl, (refl, refl)), ((refl, (refl, refl)), ((refl, (refl, refl)), ((refl, (refl, refl)), ((refl, (refl, refl)), ((refl, (refl, refl)), ((refl, (refl, refl)), ((refl, (refl, refl)), (refl, ((refl, refl), tt)))))))))))))))))))))))))))))))))

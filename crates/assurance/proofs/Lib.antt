@@ -1,5 +1,5 @@
 pub mod Edges
 pub mod Numbered
 pub mod Acceptance
-pub mod Engine
-pub mod Boundary
+pub mod Lawful
+pub mod Callers

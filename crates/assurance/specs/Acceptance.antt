@@ -18,7 +18,7 @@ use Rattle.exec.specs.Execute.{entryState, entered, execution}
 use Rattle.course.specs.Course.{Refused, begunIn, Fuelled}
 use Rattle.safety.specs.Safe.{Safe}
 use Rattle.room.specs.Room.{Enough}
-use Rattle.twins.specs.Twins.{Agree, SameEnd, Refusal}
+use Rattle.twins.specs.Twins.{Agree, SameEnd, Refusal, NoRoom}
 use Rattle.assurance.specs.Edges.{Each, edges}
 
 -- an execution of a program, one unit for each instruction
@@ -52,10 +52,10 @@ pub record Acceptance : Type 0 where
       → Refused (runs p most fuel frames regs .what)
       → (Refused (runs p most fuel frames′ regs′ .what) → ⊥)
       → Refusal p unit most fuel k m frames regs frames′ regs′ (runs p most fuel frames regs) (runs p most fuel frames′ regs′)
-  -- the answer's numbers are the same in any two lent memories that neither is refused in
+  -- the answer's numbers are the same in any two lent memories where neither is a refusal for room, whatever the bytes
   pub answers : (L : RecordLayout) (bytes : List ℕ) (most fuel : ℕ) (frames regs frames′ regs′ : List ℕ)
-      → (Refused (runs (decode L bytes) most fuel frames regs .what) → ⊥)
-      → (Refused (runs (decode L bytes) most fuel frames′ regs′ .what) → ⊥)
+      → NoRoom (execution L unit bytes most fuel frames regs .answer)
+      → NoRoom (execution L unit bytes most fuel frames′ regs′ .answer)
       → execution L unit bytes most fuel frames′ regs′ .answer ≡ execution L unit bytes most fuel frames regs .answer
   -- what a well-formed image's execution hands back is a value
   pub values : (L : RecordLayout) (bytes : List ℕ) → WellFormed L bytes → (most fuel : ℕ) (frames regs : List ℕ) (word : ℕ)

@@ -1,5 +1,6 @@
 -- The worked cases that document 01 marks P, one row for each, and its own image; both sides of enough room; for each rule of
--- admission a program that breaks it alone and meets what the rule is there to rule out; and one that breaks none and traps InvalidPc.
+-- admission that runs rest on a program that breaks it alone and meets what the rule is there to rule out; and one that breaks none
+-- and traps InvalidPc.
 use Prim.Native.Nat.{ℕ, _^_}
 use mathlib.Core.Path.{_≡_}
 use mathlib.Core.List.{List, [], _∷_}
@@ -84,16 +85,25 @@ alone regs code = record { entry = 0; functions = record { name = 0; regs = regs
 abbrev pub descent : Program
 descent = alone 1 (CallOf 0 ∷ Ret 0 ∷ [])
 
--- one whose entry wants the result of function 1 in a register that it does not have
-abbrev pub nowhere : Program
-nowhere =
+-- one whose entry, with so many registers, calls function 1, which has one: what it returns goes into dst, and the first `count`
+-- registers are its arguments
+abbrev pub calling : ℕ → ℕ → ℕ → Program
+calling regs dst count =
     record {
       entry = 0;
       functions =
-          record { name = 0; regs = 1; code = record { op = 54; small = 0; a = 5; b = 1; c = 0; w = 0 } ∷ Ret 0 ∷ [] }
+          record { name = 0; regs = regs; code = record { op = 54; small = 0; a = dst; b = 1; c = 0; w = count } ∷ Ret 0 ∷ [] }
           ∷ record { name = 1; regs = 1; code = Ret 0 ∷ [] }
           ∷ [];
     }
+
+-- more arguments than the callee has registers
+abbrev pub overfull : Program
+overfull = calling 2 0 2
+
+-- the result wanted in a register that is not there
+abbrev pub nowhere : Program
+nowhere = calling 1 5 0
 
 -- one whose entry is not there
 abbrev pub headless : Program
@@ -181,6 +191,7 @@ edges =
     ∷ Edge.breaking (alone 1 (JumpTo 3 ∷ Ret 0 ∷ [])) (InvalidJump 0 3) (Trapped InvalidPc) 1
     ∷ Edge.breaking (alone 1 (CallOf 9 ∷ Ret 0 ∷ [])) (InvalidCall 0 9) (Trapped InvalidFunction) 1
     ∷ Edge.breaking (alone 1 (CallWith 1 ∷ Ret 0 ∷ [])) (InvalidArgWindow 0 1 1) (Trapped trap.InvalidRegister) 1
+    ∷ Edge.breaking overfull (InvalidArgWindow 0 0 2) (Trapped trap.InvalidRegister) 1
     ∷ Edge.breaking nowhere (InvalidRegister 0 5) (Trapped trap.InvalidRegister) 2
     ∷ Edge.breaking (alone 1 []) (MissingReturn 0) (Trapped InvalidPc) 0
     ∷ Edge.breaking headless (InvalidEntry 1) (Trapped InvalidFunction) 0

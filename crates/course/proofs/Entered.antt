@@ -19,7 +19,7 @@ use Rattle.exec.specs.Lent.{State}
 use Rattle.exec.specs.Run.{Final, final, run}
 use Rattle.exec.specs.Begun.{begun}
 use Rattle.exec.specs.Execute.{entryState, entered}
-use Rattle.course.specs.Course.{begunIn}
+use Rattle.course.specs.Course.{Made, begunIn}
 use Rattle.course.proofs.Courses.{endCode}
 
 pub record EntryCases (p : Program) (price : Price) (most fuel : ℕ) (fr rg : List ℕ) (Q : Final → Type 0) : Type 0 where
@@ -43,10 +43,10 @@ entered-cases p price most fuel fr rg Q c =
 
 -- the same of what it begins
 pub begun-cases : (p : Program) (price : Price) (most fuel : ℕ) (fr rg : List ℕ) (Q : Final → List State → Type 0)
-    → ((e : Ending) → e ≢ Trapped FuelExceeded → Q (final e 0 fr rg) []) → Q (run p price most fuel (entryState p fr rg)) (begun p price most fuel (entryState p fr rg))
+    → ((e : Ending) → e ≢ Trapped FuelExceeded → (Made p fr rg → ⊥) → Q (final e 0 fr rg) []) → Q (run p price most fuel (entryState p fr rg)) (begun p price most fuel (entryState p fr rg))
     → Q (entered p price most fuel fr rg) (begunIn p price most fuel fr rg)
 unfolding entered begunIn
-begun-cases p price most fuel fr rg Q none some = go (leb (functionsOf p) (p .entry)) (ltb (length fr) 4) (ltb (length rg) (regsOf p (p .entry)))
+begun-cases p price most fuel fr rg Q none some = go (leb (functionsOf p) (p .entry)) refl (ltb (length fr) 4) refl (ltb (length rg) (regsOf p (p .entry))) refl
   where
     whole : Final
     whole = run p price most fuel (entryState p fr rg)
@@ -54,8 +54,15 @@ begun-cases p price most fuel fr rg Q none some = go (leb (functionsOf p) (p .en
     all : List State
     all = begun p price most fuel (entryState p fr rg)
 
-    go : (b c d : Bool) → Q (pick b (final (Trapped InvalidFunction) 0 fr rg) (pick c (final FrameRoom 0 fr rg) (pick d (final RegisterRoom 0 fr rg) whole))) (pick b [] (pick c [] (pick d [] all)))
-    go true c d = none (Trapped InvalidFunction) (λ e. let q : endCode (Trapped InvalidFunction) ≡ endCode (Trapped FuelExceeded) = ap endCode e in omega arith)
-    go false true d = none FrameRoom (λ e. let q : endCode FrameRoom ≡ endCode (Trapped FuelExceeded) = ap endCode e in omega arith)
-    go false false true = none RegisterRoom (λ e. let q : endCode RegisterRoom ≡ endCode (Trapped FuelExceeded) = ap endCode e in omega arith)
-    go false false false = some
+    go : (b : Bool) → leb (functionsOf p) (p .entry) ≡ b → (c : Bool) → ltb (length fr) 4 ≡ c → (d : Bool) → ltb (length rg) (regsOf p (p .entry)) ≡ d
+        → Q (pick b (final (Trapped InvalidFunction) 0 fr rg) (pick c (final FrameRoom 0 fr rg) (pick d (final RegisterRoom 0 fr rg) whole))) (pick b [] (pick c [] (pick d [] all)))
+    go true x c y d z =
+        none (Trapped InvalidFunction) (λ e. let q : endCode (Trapped InvalidFunction) ≡ endCode (Trapped FuelExceeded) = ap endCode e in omega arith)
+        (λ m. omega (arith, leb-true (functionsOf p) (p .entry) x, m .known))
+    go false x true y d z =
+        none FrameRoom (λ e. let q : endCode FrameRoom ≡ endCode (Trapped FuelExceeded) = ap endCode e in omega arith)
+        (λ m. omega (arith, ltb-true (length fr) 4 y, m .room))
+    go false x false y true z =
+        none RegisterRoom (λ e. let q : endCode RegisterRoom ≡ endCode (Trapped FuelExceeded) = ap endCode e in omega arith)
+        (λ m. omega (arith, ltb-true (length rg) (regsOf p (p .entry)) z, m .space))
+    go false x false y false z = some

@@ -179,11 +179,12 @@ pub fuelled : (p : Program) (most fuel : ℕ) (fr rg : List ℕ) → Fuelled p m
 unfolding trail Begin
 fuelled p most fuel fr rg =
     begun-cases p unit most fuel fr rg (Fuelled p most fuel fr rg)
-    (λ e no. record { within = omega arith; whole = λ q. absurd (no q); counts = refl; steps = refl; begin = tt })
+    (λ e no unmade. record { within = omega arith; whole = λ q. absurd (no q); counts = refl; steps = refl; begin = tt; course = λ m. absurd (unmade m) })
     (record {
       within = never-above p unit unit-fair most fuel (entryState p fr rg);
       whole = whole-limit p unit unit-fair most fuel (entryState p fr rg);
       counts = used-begun p most fuel (entryState p fr rg);
       steps = begun-steps p unit most fuel (entryState p fr rg);
       begin = begun-begin p unit most fuel (entryState p fr rg);
+      course = λ m. run-course p unit most unit-fair fuel (entryState p fr rg);
     })

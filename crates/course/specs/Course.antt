@@ -12,7 +12,7 @@ use Rattle.exec.specs.declared.Ending.{Ending}
 use Rattle.exec.specs.declared.Ending.the-variants.{Returned, Trapped, FrameRoom, RegisterRoom}
 use Rattle.exec.specs.declared.Step.{Step}
 use Rattle.exec.specs.declared.Step.the-variants.{Go, Ends}
-use Rattle.exec.specs.Price.{Price}
+use Rattle.exec.specs.Price.{Price, unit}
 use Rattle.exec.specs.Lent.{frameWords, State, state, topAt}
 use Rattle.exec.specs.Step.{stops, step, Inside}
 use Rattle.exec.specs.Run.{Final, costAt}
@@ -90,7 +90,13 @@ pub record Course (p : Program) (price : Price) (most fuel : ℕ) (s : State) (f
   pub frames : f .frames ≡ after p most steps s .frames
   pub regs : f .regs ≡ after p most steps s .regs
 
--- ---- the instructions that an execution begins: those of its run, where its entry frame is made
+-- ---- the entry frame of an execution is made: its function exists, and there are a record and registers for it
+pub record Made (p : Program) (fr rg : List ℕ) : Type 0 where
+  pub known : p .entry < functionsOf p
+  pub room : frameWords ≤ length fr
+  pub space : regsOf p (p .entry) ≤ length rg
+
+-- the instructions that an execution begins: those of its run, where its entry frame is made
 unfoldable pub begunIn : Program → Price → ℕ → ℕ → List ℕ → List ℕ → List State
 begunIn p price most fuel fr rg =
     pick (leb (functionsOf p) (p .entry)) []
@@ -99,10 +105,12 @@ begunIn p price most fuel fr rg =
     (begun p price most fuel (entryState p fr rg))))
 
 -- the fuel that an execution uses is never above the limit, is the whole limit on FuelExceeded, and counts the states at which
--- instructions begin; those are the steps from the entry frame on, and at each of them one does begin
+-- instructions begin; those are the steps from the entry frame on, at each of them one does begin, and none is left out: where the
+-- entry frame is made the execution is a course of steps, each charged, and an end
 pub record Fuelled (p : Program) (most fuel : ℕ) (fr rg : List ℕ) (f : Final) (states : List State) : Type 0 where
   pub within : f .used ≤ fuel
   pub whole : f .what ≡ Trapped FuelExceeded → f .used ≡ fuel
   pub counts : f .used ≡ length states
   pub steps : states ≡ trail p most (length states) (entryState p fr rg)
   pub begin : Begin p most (length states) (entryState p fr rg)
+  pub course : Made p fr rg → Course p unit most fuel (entryState p fr rg) f

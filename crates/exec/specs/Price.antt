@@ -1,4 +1,5 @@
--- What an instruction is charged, by its opcode's number. Runs are defined, and what is said of them is proved, for every price.
+-- What an instruction is charged, by its opcode's number. Runs are defined for every price, and what is said of them is proved for
+-- every fair one.
 use Prim.Native.Nat.{ℕ, _≤_}
 
 abbrev pub Price : Type 0

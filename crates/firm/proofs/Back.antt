@@ -22,6 +22,7 @@ use Rattle.exec.specs.declared.CoreOutcome.{CoreOutcome}
 use Rattle.exec.specs.declared.CoreOutcome.the-variants.{Done, Image, FrameRoom, RegisterRoom}
 use Rattle.exec.specs.declared.CoreExecution.{CoreExecution}
 use Rattle.exec.specs.declared.CoreExecution.the-variants as settling
+use Rattle.firm.specs.Firm.{HeldResult, HeldOutcome, HeldExecution}
 use Rattle.exec.specs.Execute.{outcomeNumbers, valueIn, executionNumbers}
 
 -- ---- traps, statuses, results
@@ -50,16 +51,6 @@ resultAt ns =
       «return_value» = valueIn (valueAt (register (getD ns 2 0) (getD ns 3 0)));
       «fuel_used» = getD ns 4 0;
     }
-
--- the values of a result are those that the engine's types hold
-abbrev pub HeldResult : CoreResult → Type 0
-HeldResult r = Held (r .«return_value»)
-
-abbrev pub HeldOutcome : CoreOutcome → Type 0
-HeldOutcome (Done r) = HeldResult r
-HeldOutcome (Image fault) = Unit {0}
-HeldOutcome (FrameRoom used) = Unit {0}
-HeldOutcome (RegisterRoom used) = Unit {0}
 
 outcomeAt : List ℕ → CoreOutcome
 outcomeAt ns =
@@ -90,13 +81,6 @@ executionAt ns =
     let is : ℕ → Bool = λ k. eqb (getD ns 0 0) k in
     pick (is 0) (pick (eqb (length ns) 2) (settling.Trap (trapAt (getD ns 1 0 - 1))) (settling.Done (resultAt ns)))
     (pick (is 6) (settling.FrameRoom (getD ns 1 0)) (pick (is 7) (settling.RegisterRoom (getD ns 1 0)) (settling.Image (faultOf ns))))
-
-abbrev pub HeldExecution : CoreExecution → Type 0
-HeldExecution (settling.Done r) = HeldResult r
-HeldExecution (settling.Trap t) = Unit {0}
-HeldExecution (settling.Image fault) = Unit {0}
-HeldExecution (settling.FrameRoom used) = Unit {0}
-HeldExecution (settling.RegisterRoom used) = Unit {0}
 
 execution-back : (o : CoreExecution) → HeldExecution o → executionAt (executionNumbers o) ≡ o
 unfolding executionAt resultAt faultOf wordOf

@@ -85,8 +85,8 @@ use Rattle.exec.proofs.config.CoreConfig.with_engine_policy.Reads as «exec::co
 use Rattle.capi.proofs.knit_validate.Reads as «capi::knit_validate»
 use Rattle.capi.proofs.knit_execute.Reads as «capi::knit_execute»
 use Rattle.capi.proofs.knit_digest.Reads as «capi::knit_digest»
-use Rattle.firm.specs.Firm.{One, OneAnd, OneHeld}
-use Rattle.firm.proofs.Back.{HeldOutcome, HeldExecution, outcome-unique, execution-unique}
+use Rattle.firm.specs.Firm.{One, OneAnd, OneHeld, HeldOutcome, HeldExecution}
+use Rattle.firm.proofs.Back.{outcome-unique, execution-unique}
 
 -- ---- basis: bytes and wrapping products
 pub «one·basis::wrapping_mul_u64» : (κs : _) (a : _) → One («basis::wrapping_mul_u64».Learnt κs a)

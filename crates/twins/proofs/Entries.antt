@@ -15,15 +15,15 @@ use Rattle.image.specs.Image.{imageFault}
 use Rattle.image.specs.Program.{Program, decode}
 use Rattle.image.specs.Parts.{regsOf}
 use Rattle.exec.specs.declared.Ending.{Ending}
-use Rattle.exec.specs.declared.Ending.the-variants.{Trapped, FrameRoom, RegisterRoom}
+use Rattle.exec.specs.declared.Ending.the-variants.{Returned, Trapped, FrameRoom, RegisterRoom}
 use Rattle.exec.specs.Price.{Price, Fair}
 use Rattle.exec.specs.Lent.{recordOf, unitWord}
 use Rattle.exec.specs.Run.{Final, final, run}
-use Rattle.exec.specs.Execute.{entryState, entered, executed, ended, execution}
-use Rattle.course.specs.Course.{Refused}
+use Rattle.exec.specs.Execute.{outcomeNumbers, outcomeOf, entryState, entered, executed, ended, execution}
+use Rattle.course.specs.Course.{Refused, Made}
 use Rattle.course.proofs.Words.{entry-function, entry-first}
 use Rattle.course.proofs.Entered.{entered-cases}
-use Rattle.twins.specs.Twins.{Agree, Alike, SameEnd, UpTo, Refusal}
+use Rattle.twins.specs.Twins.{Agree, Alike, SameEnd, UpTo, Refusal, NoRoom}
 use Rattle.twins.specs.Twins.Refusal.{atEntry, atCall}
 use Rattle.twins.proofs.Agrees.{less, sets-agree}
 use Rattle.twins.proofs.Runs.{same-end, up-to}
@@ -68,7 +68,7 @@ module _ (p : Program) (k m : ℕ) (fr rg fr′ rg′ : List ℕ) (hf : Agree k 
     -- two executions: the entry exists for neither, or one is refused for it, or both run
     record Twice (Q : Final → Final → Type 0) : Type 0 where
       unknown : Q (final (Trapped InvalidFunction) 0 fr rg) (final (Trapped InvalidFunction) 0 fr′ rg′)
-      first : (e : Ending) (g : Final) → Refused e → Q (final e 0 fr rg) g
+      first : (e : Ending) (g : Final) → Refused e → (Made p fr rg → ⊥) → Q (final e 0 fr rg) g
       second : (f : Final) (e : Ending) → Refused e → Q f (final e 0 fr′ rg′)
       runs : Alike p (max k 4) (max m n) (entryState p fr rg) (entryState p fr′ rg′) → Q runFirst runSecond
 
@@ -81,8 +81,8 @@ module _ (p : Program) (k m : ℕ) (fr rg fr′ rg′ : List ℕ) (hf : Agree k 
             registers = λ q _ _. absurd (omega arith);
             runs = λ q _ _. absurd (omega arith);
           });
-          frames = λ _ _. c .first FrameRoom (entered p price most fuel fr′ rg′) tt;
-          registers = λ _ _ _. c .first RegisterRoom (entered p price most fuel fr′ rg′) tt;
+          frames = λ _ l. c .first FrameRoom (entered p price most fuel fr′ rg′) tt (λ m. omega (arith, m .room));
+          registers = λ _ _ l. c .first RegisterRoom (entered p price most fuel fr′ rg′) tt (λ m. omega (arith, m .space));
           runs = λ known x y. entered-cases p price most fuel fr′ rg′ (Q runFirst) (record {
             unknown = λ q. absurd (omega arith);
             frames = λ _ _. c .second runFirst FrameRoom tt;
@@ -96,7 +96,7 @@ module _ (p : Program) (k m : ℕ) (fr rg fr′ rg′ : List ℕ) (hf : Agree k 
     independent =
         twice (λ f g. (Refused (f .what) → ⊥) → (Refused (g .what) → ⊥) → SameEnd k m f g) (record {
           unknown = λ _ _. record { what = refl; used = refl; frames = hf; regs = hr };
-          first = λ e g r kept _. absurd (kept r);
+          first = λ e g r _ kept _. absurd (kept r);
           second = λ f e r _ served. absurd (served r);
           runs = λ a kept served.
               fewer (max k 4) (max m n) k m runFirst runSecond (omega arith) (omega arith)
@@ -108,7 +108,7 @@ module _ (p : Program) (k m : ℕ) (fr rg fr′ rg′ : List ℕ) (hf : Agree k 
     refused-up-to =
         twice (λ f g. Refused (f .what) → (Refused (g .what) → ⊥) → Refusal p price most fuel k m fr rg fr′ rg′ f g) (record {
           unknown = λ r _. absurd r;
-          first = λ e g r _ _. atEntry refl refl refl;
+          first = λ e g r unmade _ _. atEntry unmade refl refl refl;
           second = λ f e r _ served. absurd (served r);
           runs = λ a r served. atCall (nearer (up-to p price fair most fuel (max k 4) (max m n) (entryState p fr rg) (entryState p fr′ rg′) a served r));
         })
@@ -135,16 +135,28 @@ module _ (p : Program) (k m : ℕ) (fr rg fr′ rg′ : List ℕ) (hf : Agree k 
         }
 
 -- ---- the answer: the lent words' contents and sizes do not occur in it
+-- how a run that is refused is numbered
+refused-number : (what : Ending) (used : ℕ) → NoRoom (outcomeNumbers (outcomeOf what used)) → Refused what → ⊥
+refused-number (Returned word) used h r = r
+refused-number (Trapped t) used h r = r
+refused-number FrameRoom used h r = h .frames refl
+refused-number RegisterRoom used h r = h .regs refl
+
 pub same-answer : (L : RecordLayout) (b : List ℕ) (price : Price) → Fair price → (most fuel : ℕ) (fr rg fr′ rg′ : List ℕ)
-    → (Refused (entered (decode L b) price most fuel fr rg .what) → ⊥) → (Refused (entered (decode L b) price most fuel fr′ rg′ .what) → ⊥)
+    → NoRoom (execution L price b most fuel fr rg .answer) → NoRoom (execution L price b most fuel fr′ rg′ .answer)
     → execution L price b most fuel fr′ rg′ .answer ≡ execution L price b most fuel fr rg .answer
 unfolding execution
-same-answer L b price fair most fuel fr rg fr′ rg′ kept served = go (isFine (imageFault L b))
+same-answer L b price fair most fuel fr rg fr′ rg′ = go (isFine (imageFault L b))
   where
-    same : SameEnd 0 0 (entered (decode L b) price most fuel fr rg) (entered (decode L b) price most fuel fr′ rg′)
-    same = independent (decode L b) 0 0 fr rg fr′ rg′ (nothing fr fr′) (nothing rg rg′) price fair most fuel kept served
+    F : Final
+    F = entered (decode L b) price most fuel fr rg
 
-    go : (c : Bool) → pick c (ended (entered (decode L b) price most fuel fr′ rg′)) (executed (imageFault L b) fr′ rg′) .answer
-        ≡ pick c (ended (entered (decode L b) price most fuel fr rg)) (executed (imageFault L b) fr rg) .answer
-    go true = rw (same .what, same .used)
-    go false = refl
+    G : Final
+    G = entered (decode L b) price most fuel fr′ rg′
+
+    go : (c : Bool) → NoRoom (pick c (ended F) (executed (imageFault L b) fr rg) .answer) → NoRoom (pick c (ended G) (executed (imageFault L b) fr′ rg′) .answer)
+        → pick c (ended G) (executed (imageFault L b) fr′ rg′) .answer ≡ pick c (ended F) (executed (imageFault L b) fr rg) .answer
+    go true kept served =
+        let same : SameEnd 0 0 F G = independent (decode L b) 0 0 fr rg fr′ rg′ (nothing fr fr′) (nothing rg rg′) price fair most fuel (refused-number (F .what) (F .used) kept) (refused-number (G .what) (G .used) served) in
+        λ i. outcomeNumbers (outcomeOf (same .what i) (same .used i))
+    go false kept served = refl

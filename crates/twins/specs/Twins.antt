@@ -2,6 +2,7 @@
 use Prim.Native.Nat.{ℕ, _+_, _*_, _-_, _≤_, _<_}
 use mathlib.Core.Path.{_≡_}
 use mathlib.Core.List.{List}
+use mathlib.Core.Logic.{_≢_}
 use lib.ListN.{length, getD}
 use Rattle.image.specs.Program.{Program}
 use Rattle.image.specs.Parts.{regsOf}
@@ -11,7 +12,7 @@ use Rattle.exec.specs.declared.Step.the-variants.{Ends}
 use Rattle.exec.specs.Step.{stops, step}
 use Rattle.exec.specs.Run.{Final, later, costAt, run}
 use Rattle.exec.specs.Execute.{entryState}
-use Rattle.course.specs.Course.{after, Leads, charged}
+use Rattle.course.specs.Course.{after, Leads, charged, Made}
 
 -- the first n words are there twice, and the same
 pub record Agree (n : ℕ) (xs ys : List ℕ) : Type 0 where
@@ -62,7 +63,12 @@ pub record UpTo (p : Program) (price : Price) (most fuel k m : ℕ) (s t : State
 
 -- an execution that was refused for room, f with the lent words fr and rg, beside one that was not, g with fr′ and rg′
 pub data Refusal (p : Program) (price : Price) (most fuel k m : ℕ) (fr rg fr′ rg′ : List ℕ) (f g : Final) : Type 0 where
-  -- for the entry frame: nothing was written, and no fuel used
-  atEntry : f .used ≡ 0 → f .frames ≡ fr → f .regs ≡ rg → Refusal p price most fuel k m fr rg fr′ rg′ f g
+  -- for the entry frame, which could not be made: nothing was written, and no fuel used
+  atEntry : (Made p fr rg → ⊥) → f .used ≡ 0 → f .frames ≡ fr → f .regs ≡ rg → Refusal p price most fuel k m fr rg fr′ rg′ f g
   -- at a Call
   atCall : UpTo p price most fuel k m (entryState p fr rg) (entryState p fr′ rg′) f g → Refusal p price most fuel k m fr rg fr′ rg′ f g
+
+-- an answer's numbers say no refusal for room
+pub record NoRoom (answer : List ℕ) : Type 0 where
+  pub frames : getD answer 0 0 ≢ 6
+  pub regs : getD answer 0 0 ≢ 7

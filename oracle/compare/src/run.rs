@@ -136,7 +136,7 @@ fn case_fault<'a>(
     }
     for (setting, ask) in case.asks(number) {
         let expected = ask.by_reading();
-        let known = case.known(&ask);
+        let known = case.known(setting, &ask);
         let fault = agreement_fault(setting, &expected)
             .or_else(|| engine_fault(engine, &ask, &expected))
             .or_else(|| law_fault(known, &expected.answer));

@@ -82,13 +82,14 @@ impl Case {
     }
 
     /// What is known of a run beside its answer.
-    pub fn known(&self, ask: &Ask) -> Known {
+    pub fn known(&self, setting: &Setting, ask: &Ask) -> Known {
         let needed = enough(ask.limits.max_call_depth, u64::MAX, self.largest);
         let Room { frames, registers } = ask.room;
         Known {
             limits: ask.limits,
             admitted: self.admitted,
             enough: frames >= needed.frames && registers >= needed.registers,
+            at_length: setting.measure.at_length,
         }
     }
 

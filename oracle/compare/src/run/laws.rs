@@ -14,6 +14,8 @@ pub struct Known {
     pub admitted: bool,
     /// At least as much is lent as document 01 calls enough.
     pub enough: bool,
+    /// With enough room it ends where the place is its function's length.
+    pub at_length: bool,
 }
 
 fn status(trap: CoreTrap) -> u64 {
@@ -33,6 +35,7 @@ pub fn broken(known: Known, answer: &Answer) -> Option<&'static str> {
         _ => return None,
     };
     let Limits { fuel, .. } = known.limits;
+    let past_its_end = known.admitted && ends_with(answer, CoreTrap::InvalidPc);
     let laws = [
         (used > fuel, "more fuel was used than there was"),
         (
@@ -52,8 +55,12 @@ pub fn broken(known: Known, answer: &Answer) -> Option<&'static str> {
             "an admitted program met a function that is not there",
         ),
         (
-            known.admitted && ends_with(answer, CoreTrap::InvalidPc) && used == 0,
+            past_its_end && used == 0,
             "an admitted program was past its end before it began",
+        ),
+        (
+            past_its_end && !known.at_length,
+            "an admitted program was farther than its end",
         ),
     ];
     laws.into_iter()
@@ -71,6 +78,7 @@ mod tests {
         },
         admitted: true,
         enough: true,
+        at_length: true,
     };
 
     fn trapped(trap: CoreTrap, used: u64) -> Answer {
@@ -121,12 +129,24 @@ mod tests {
         }
     }
 
+    #[test]
+    fn the_place_is_looked_at() {
+        let known = Known {
+            at_length: false,
+            ..KNOWN
+        };
+        let found = broken(known, &trapped(CoreTrap::InvalidPc, 3));
+        assert_eq!(found, Some("an admitted program was farther than its end"));
+        assert_eq!(broken(known, &trapped(CoreTrap::AssertFailed, 3)), None);
+    }
+
     /// Without admission or enough room the same answers are right.
     #[test]
     fn the_laws_ask_for_what_they_rest_on() {
         let known = Known {
             admitted: false,
             enough: false,
+            at_length: false,
             ..KNOWN
         };
         let kept = [

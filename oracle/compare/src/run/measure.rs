@@ -18,6 +18,8 @@ pub struct Measure {
     /// The words that it came to use: with one less it is refused.
     pub used: Room,
     pub begun: [u64; OPCODES],
+    /// Where it ended, the running frame's place was its function's length.
+    pub at_length: bool,
 }
 
 /// Lent memory to measure in, kept from one run to the next. What stands in
@@ -41,6 +43,7 @@ impl Scratch {
                 registers: 0,
             },
             begun: [0; OPCODES],
+            at_length: false,
         };
         let program = match image::check(image) {
             Ok(program) => program,
@@ -66,6 +69,7 @@ impl Measure {
     fn look_at(&mut self, run: &Run) {
         let top = run.running().first as usize + usize::from(run.running_function().regs);
         self.deepest = self.deepest.max(run.depth);
+        self.at_length = run.running().place == u64::from(run.running_function().count);
         self.used.frames = RECORD * self.deepest;
         self.used.registers = self.used.registers.max(top);
         if let (Some(record), true) = (run.instruction(), run.used < run.limits.fuel) {

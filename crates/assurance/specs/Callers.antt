@@ -1,0 +1,95 @@
+-- What callers can rely on, said of the numbers that an execution answers with: its number, and for 0 status, kind, payload and fuel
+-- used, for 6 and 7 the fuel used. `execute_outcome` answers with these numbers, and over the C boundary they are the number returned
+-- and the words written.
+use Prim.Native.Nat.{ℕ, _≤_}
+use mathlib.Core.Path.{_≡_}
+use mathlib.Core.List.{List, [], _∷_}
+use mathlib.Core.Logic.{_≢_}
+use denote.Ref.{now}
+use lib.Dec.{eqb}
+use lib.ListN.{length, getD}
+use Rattle.basis.specs.Choice.{pick}
+use Rattle.runtime.specs.declared.CoreAdmissionProfile.{CoreAdmissionProfile}
+use Rattle.runtime.specs.declared.CoreTrap.the-variants.{InvalidPc, InvalidRegister, FuelExceeded, InvalidFunction}
+use Rattle.value.specs.declared.result.CoreStatus.the-variants.{Trapped}
+use Rattle.value.specs.Result.{statusWord}
+use Rattle.image.specs.Records.{form1}
+use Rattle.image.specs.Program.{decode}
+use Rattle.admission.specs.declared.CoreValidation.the-variants.{Admitted}
+use Rattle.admission.specs.Verdict.{verdict}
+use Rattle.admission.proofs.validate_program.Reads as validate_program
+use Rattle.exec.specs.Price.{unit}
+use Rattle.exec.specs.Execute.{outcomeNumbers, entryState}
+use Rattle.exec.proofs.execute_outcome.Reads as execute_outcome
+use Rattle.exec.proofs.CoreExecutor.execute_outcome.Reads as executor
+use Rattle.capi.proofs.knit_validate.Reads as knit_validate
+use Rattle.capi.proofs.knit_execute.Reads as knit_execute
+use Rattle.course.specs.Course.{begunIn}
+use Rattle.safety.specs.Safe.{AtLength}
+use Rattle.room.specs.Room.{Enough}
+use Rattle.twins.specs.Twins.{NoRoom}
+use Rattle.assurance.specs.Acceptance.{runs}
+
+-- ---- an answer's numbers
+abbrev pub numberIn : List ℕ → ℕ
+numberIn ns = getD ns 0 0
+
+abbrev pub statusIn : List ℕ → ℕ
+statusIn ns = getD ns 1 0
+
+abbrev pub usedIn : List ℕ → ℕ
+usedIn ns = pick (eqb (getD ns 0 0) 0) (getD ns 4 0) (getD ns 1 0)
+
+-- there was a run: the number is none of an image's faults
+abbrev pub Ran : ℕ → Type 0
+Ran number = 1 ≤ number → number ≤ 5 → ⊥
+
+-- ---- the answer to an image, a depth limit, fuel and lent memory
+pub record Lawful (bytes : List ℕ) (most fuel : ℕ) (frames regs ns : List ℕ) : Type 0 where
+  -- the fuel used is never above the limit, counts the instructions begun, and is the limit on FuelExceeded
+  pub within : Ran (numberIn ns) → usedIn ns ≤ fuel
+  pub counts : Ran (numberIn ns) → usedIn ns ≡ length (begunIn (decode form1 bytes) unit most fuel frames regs)
+  pub whole : numberIn ns ≡ 0 → statusIn ns ≡ statusWord (Trapped FuelExceeded) → usedIn ns ≡ fuel
+  -- with enough lent memory it is no refusal for room
+  pub room : Enough (decode form1 bytes) most frames regs → NoRoom ns
+  -- of a program that is admitted, under any profile: neither InvalidRegister nor InvalidFunction, and InvalidPc at the length
+  pub registers : (profile : CoreAdmissionProfile) → verdict form1 bytes profile ≡ []
+      → numberIn ns ≡ 0 → statusIn ns ≢ statusWord (Trapped InvalidRegister)
+  pub functions : (profile : CoreAdmissionProfile) → verdict form1 bytes profile ≡ []
+      → numberIn ns ≡ 0 → statusIn ns ≢ statusWord (Trapped InvalidFunction)
+  pub places : (profile : CoreAdmissionProfile) → verdict form1 bytes profile ≡ []
+      → numberIn ns ≡ 0 → statusIn ns ≡ statusWord (Trapped InvalidPc)
+      → AtLength (decode form1 bytes) most (entryState (decode form1 bytes) frames regs) (runs (decode form1 bytes) most fuel frames regs)
+
+-- ---- by what the functions' own contracts tell of arguments a, an answer and the parameters at exit e
+abbrev pub ExecuteOutcomeLawful : Type 0
+ExecuteOutcomeLawful = (κs : _) (a : _) (r : _) (e : _) → execute_outcome.Learnt κs a r e
+    → Lawful (now (a .0)) (a .1 .0 .«max_call_depth») (a .1 .0 .fuel) (now (a .1 .1 .0)) (now (a .1 .1 .1 .0)) (outcomeNumbers r)
+
+abbrev pub ExecutorLawful : Type 0
+ExecutorLawful = (κs : _) (a : _) (r : _) (e : _) → executor.Learnt κs a r e
+    → Lawful (now (a .1 .0)) (a .0 .config .«max_call_depth») (a .0 .config .fuel) (now (a .1 .1 .0)) (now (a .1 .1 .1 .0)) (outcomeNumbers r)
+
+abbrev pub KnitExecuteLawful : Type 0
+KnitExecuteLawful = (κs : _) (a : _) (n : _) (e : _) → knit_execute.Learnt κs a n e
+    → Lawful (now (a .0)) (a .1 .1 .0) (a .1 .0) (now (a .1 .1 .1 .0)) (now (a .1 .1 .1 .1 .0)) (n ∷ now (e .1 .1 .1 .1 .1 .0))
+
+-- `Admitted`, and 0 over the C boundary, are the verdict that the laws speak of
+abbrev pub ValidateProgramAdmits : Type 0
+ValidateProgramAdmits = (κs : _) (a : _) (v : _) (e : _) → validate_program.Learnt κs a v e → v ≡ Admitted → verdict form1 (now (a .0)) (a .1 .0) ≡ []
+
+abbrev pub KnitValidateAdmits : Type 0
+KnitValidateAdmits = (κs : _) (a : _) (n : _) (e : _) → knit_validate.Learnt κs a n e → n ≡ 0
+    → verdict form1 (now (a .0)) (record { «max_registers» = a .1 .0; «max_functions» = a .1 .1 .0; «max_call_depth» = a .1 .1 .1 .0; «max_instrs_per_function» = a .1 .1 .1 .1 .0; «max_fuel» = a .1 .1 .1 .1 .1 .0 }) ≡ []
+
+-- two calls with the same image, fuel and depth limit, in whatever memory, have the same numbers where neither is refused for room;
+-- over the C boundary the digest is among them
+abbrev pub ExecuteOutcomeSame : Type 0
+ExecuteOutcomeSame = (κs : _) (a : _) (r : _) (e : _) (κt : _) (b : _) (q : _) (f : _) → execute_outcome.Learnt κs a r e → execute_outcome.Learnt κt b q f
+    → now (b .0) ≡ now (a .0) → b .1 .0 .fuel ≡ a .1 .0 .fuel → b .1 .0 .«max_call_depth» ≡ a .1 .0 .«max_call_depth»
+    → NoRoom (outcomeNumbers r) → NoRoom (outcomeNumbers q) → outcomeNumbers q ≡ outcomeNumbers r
+
+abbrev pub KnitExecuteSame : Type 0
+KnitExecuteSame = (κs : _) (a : _) (n : _) (e : _) (κt : _) (b : _) (m : _) (f : _) → knit_execute.Learnt κs a n e → knit_execute.Learnt κt b m f
+    → now (b .0) ≡ now (a .0) → b .1 .0 ≡ a .1 .0 → b .1 .1 .0 ≡ a .1 .1 .0
+    → NoRoom (n ∷ []) → NoRoom (m ∷ []) → (m ≡ n) × (now (f .1 .1 .1 .1 .1 .0) ≡ now (e .1 .1 .1 .1 .1 .0))
