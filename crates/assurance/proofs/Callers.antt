@@ -12,21 +12,21 @@ use Rattle.exec.specs.Price.{unit}
 use Rattle.exec.specs.Execute.{Executed, execution}
 use Rattle.capi.specs.Boundary.{numberOf, Crossing, crossed}
 use Rattle.twins.specs.Twins.{NoRoom}
-use Rattle.assurance.specs.Callers.{numberIn, Lawful, ExecuteOutcomeLawful, ExecutorLawful, KnitExecuteLawful, ValidateProgramAdmits, KnitValidateAdmits, ExecuteOutcomeSame, KnitExecuteSame}
+use Rattle.assurance.specs.Callers.{numberIn, Reliable, profileOf, ExecuteOutcomeReliable, ExecutorReliable, KnitExecuteReliable, ValidateProgramAdmits, KnitValidateAdmits, ExecuteOutcomeSame, KnitExecuteSame}
 use Rattle.assurance.proofs.Numbered.{Numbered, verdict-numbered}
 use Rattle.assurance.proofs.Acceptance.{acceptance}
-use Rattle.assurance.proofs.Lawful.{across, answer-lawful, across-lawful, number-across}
+use Rattle.assurance.proofs.Reliable.{across, answer-reliable, across-reliable, number-across}
 
 -- ---- in Rattle
-pub execute-outcome-lawful : ExecuteOutcomeLawful
-execute-outcome-lawful κs a r e told =
-    subst (Lawful (now (a .0)) (a .1 .0 .«max_call_depth») (a .1 .0 .fuel) (now (a .1 .1 .0)) (now (a .1 .1 .1 .0))) (sym (ap (λ (o : Executed). o .answer) told))
-    (answer-lawful (now (a .0)) (a .1 .0 .«max_call_depth») (a .1 .0 .fuel) (now (a .1 .1 .0)) (now (a .1 .1 .1 .0)))
+pub execute-outcome-reliable : ExecuteOutcomeReliable
+execute-outcome-reliable κs a r e told =
+    subst (Reliable (now (a .0)) (a .1 .0 .«max_call_depth») (a .1 .0 .fuel) (now (a .1 .1 .0)) (now (a .1 .1 .1 .0))) (sym (ap (λ (o : Executed). o .answer) told))
+    (answer-reliable (now (a .0)) (a .1 .0 .«max_call_depth») (a .1 .0 .fuel) (now (a .1 .1 .0)) (now (a .1 .1 .1 .0)))
 
-pub executor-lawful : ExecutorLawful
-executor-lawful κs a r e told =
-    subst (Lawful (now (a .1 .0)) (a .0 .config .«max_call_depth») (a .0 .config .fuel) (now (a .1 .1 .0)) (now (a .1 .1 .1 .0))) (sym (ap (λ (o : Executed). o .answer) told))
-    (answer-lawful (now (a .1 .0)) (a .0 .config .«max_call_depth») (a .0 .config .fuel) (now (a .1 .1 .0)) (now (a .1 .1 .1 .0)))
+pub executor-reliable : ExecutorReliable
+executor-reliable κs a r e told =
+    subst (Reliable (now (a .1 .0)) (a .0 .config .«max_call_depth») (a .0 .config .fuel) (now (a .1 .1 .0)) (now (a .1 .1 .1 .0))) (sym (ap (λ (o : Executed). o .answer) told))
+    (answer-reliable (now (a .1 .0)) (a .0 .config .«max_call_depth») (a .0 .config .fuel) (now (a .1 .1 .0)) (now (a .1 .1 .1 .0)))
 
 pub validate-program-admits : ValidateProgramAdmits
 validate-program-admits κs a v e told admitted = sym told ∙ ap verdictNumbers admitted
@@ -47,11 +47,11 @@ told-across : (x : Executed) (c : Crossing) → c ≡ crossed x → c .number �
 unfolding crossed
 told-across x c e = ap (λ (d : Crossing). d .number ∷ d .words) e
 
-pub knit-execute-lawful : KnitExecuteLawful
-knit-execute-lawful κs a n e told =
+pub knit-execute-reliable : KnitExecuteReliable
+knit-execute-reliable κs a n e told =
     let x : Executed = execution form1 unit (now (a .0)) (a .1 .1 .0) (a .1 .0) (now (a .1 .1 .1 .0)) (now (a .1 .1 .1 .1 .0)) in
-    subst (Lawful (now (a .0)) (a .1 .1 .0) (a .1 .0) (now (a .1 .1 .1 .0)) (now (a .1 .1 .1 .1 .0))) (sym (told-across x _ told))
-    (across-lawful (now (a .0)) (a .1 .1 .0) (a .1 .0) (now (a .1 .1 .1 .0)) (now (a .1 .1 .1 .1 .0)))
+    subst (Reliable (now (a .0)) (a .1 .1 .0) (a .1 .0) (now (a .1 .1 .1 .0)) (now (a .1 .1 .1 .1 .0))) (sym (told-across x _ told))
+    (across-reliable (now (a .0)) (a .1 .1 .0) (a .1 .0) (now (a .1 .1 .1 .0)) (now (a .1 .1 .1 .1 .0)))
 
 -- a verdict's number is 0 only where nothing is wrong
 fine : (answer : List ℕ) → Numbered 20 answer → numberOf answer ≡ 0 → answer ≡ []
@@ -61,7 +61,7 @@ fine (n ∷ ns) h e = absurd (omega (arith, h .0))
 
 pub knit-validate-admits : KnitValidateAdmits
 knit-validate-admits κs a n e told admitted =
-    let profile : CoreAdmissionProfile = record { «max_registers» = a .1 .0; «max_functions» = a .1 .1 .0; «max_call_depth» = a .1 .1 .1 .0; «max_instrs_per_function» = a .1 .1 .1 .1 .0; «max_fuel» = a .1 .1 .1 .1 .1 .0 } in
+    let profile : CoreAdmissionProfile = profileOf (a .1 .0) (a .1 .1 .0) (a .1 .1 .1 .0) (a .1 .1 .1 .1 .0) (a .1 .1 .1 .1 .1 .0) in
     fine (verdict form1 (now (a .0)) profile) (verdict-numbered form1 (now (a .0)) profile) (sym (told .0) ∙ admitted)
 
 -- no refusal for room by the number alone

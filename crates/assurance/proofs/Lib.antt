@@ -1,5 +1,5 @@
 pub mod Edges
 pub mod Numbered
 pub mod Acceptance
-pub mod Lawful
+pub mod Reliable
 pub mod Callers

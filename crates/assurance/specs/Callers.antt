@@ -45,7 +45,7 @@ abbrev pub Ran : ℕ → Type 0
 Ran number = 1 ≤ number → number ≤ 5 → ⊥
 
 -- ---- the answer to an image, a depth limit, fuel and lent memory
-pub record Lawful (bytes : List ℕ) (most fuel : ℕ) (frames regs ns : List ℕ) : Type 0 where
+pub record Reliable (bytes : List ℕ) (most fuel : ℕ) (frames regs ns : List ℕ) : Type 0 where
   -- the fuel used is never above the limit, counts the instructions begun, and is the limit on FuelExceeded
   pub within : Ran (numberIn ns) → usedIn ns ≤ fuel
   pub counts : Ran (numberIn ns) → usedIn ns ≡ length (begunIn (decode form1 bytes) unit most fuel frames regs)
@@ -62,34 +62,48 @@ pub record Lawful (bytes : List ℕ) (most fuel : ℕ) (frames regs ns : List �
       → AtLength (decode form1 bytes) most (entryState (decode form1 bytes) frames regs) (runs (decode form1 bytes) most fuel frames regs)
 
 -- ---- by what the functions' own contracts tell of arguments a, an answer and the parameters at exit e
-abbrev pub ExecuteOutcomeLawful : Type 0
-ExecuteOutcomeLawful = (κs : _) (a : _) (r : _) (e : _) → execute_outcome.Learnt κs a r e
-    → Lawful (now (a .0)) (a .1 .0 .«max_call_depth») (a .1 .0 .fuel) (now (a .1 .1 .0)) (now (a .1 .1 .1 .0)) (outcomeNumbers r)
+abbrev pub ExecuteOutcomeReliable : Type 0
+ExecuteOutcomeReliable = (κs : _) (a : _) (r : _) (e : _) → execute_outcome.Learnt κs a r e
+    → Reliable (now (a .0)) (a .1 .0 .«max_call_depth») (a .1 .0 .fuel) (now (a .1 .1 .0)) (now (a .1 .1 .1 .0)) (outcomeNumbers r)
 
-abbrev pub ExecutorLawful : Type 0
-ExecutorLawful = (κs : _) (a : _) (r : _) (e : _) → executor.Learnt κs a r e
-    → Lawful (now (a .1 .0)) (a .0 .config .«max_call_depth») (a .0 .config .fuel) (now (a .1 .1 .0)) (now (a .1 .1 .1 .0)) (outcomeNumbers r)
+abbrev pub ExecutorReliable : Type 0
+ExecutorReliable = (κs : _) (a : _) (r : _) (e : _) → executor.Learnt κs a r e
+    → Reliable (now (a .1 .0)) (a .0 .config .«max_call_depth») (a .0 .config .fuel) (now (a .1 .1 .0)) (now (a .1 .1 .1 .0)) (outcomeNumbers r)
 
-abbrev pub KnitExecuteLawful : Type 0
-KnitExecuteLawful = (κs : _) (a : _) (n : _) (e : _) → knit_execute.Learnt κs a n e
-    → Lawful (now (a .0)) (a .1 .1 .0) (a .1 .0) (now (a .1 .1 .1 .0)) (now (a .1 .1 .1 .1 .0)) (n ∷ now (e .1 .1 .1 .1 .1 .0))
+abbrev pub KnitExecuteReliable : Type 0
+KnitExecuteReliable = (κs : _) (a : _) (n : _) (e : _) → knit_execute.Learnt κs a n e
+    → Reliable (now (a .0)) (a .1 .1 .0) (a .1 .0) (now (a .1 .1 .1 .0)) (now (a .1 .1 .1 .1 .0)) (n ∷ now (e .1 .1 .1 .1 .1 .0))
 
--- `Admitted`, and 0 over the C boundary, are the verdict that the laws speak of
+-- the profile of five limits
+abbrev pub profileOf : ℕ → ℕ → ℕ → ℕ → ℕ → CoreAdmissionProfile
+profileOf registers functions depth instrs fuel =
+    record {
+      «max_registers» = registers;
+      «max_functions» = functions;
+      «max_call_depth» = depth;
+      «max_instrs_per_function» = instrs;
+      «max_fuel» = fuel;
+    }
+
+-- `Admitted`, and 0 over the C boundary, are the verdict that is spoken of above
 abbrev pub ValidateProgramAdmits : Type 0
-ValidateProgramAdmits = (κs : _) (a : _) (v : _) (e : _) → validate_program.Learnt κs a v e → v ≡ Admitted → verdict form1 (now (a .0)) (a .1 .0) ≡ []
+ValidateProgramAdmits = (κs : _) (a : _) (v : _) (e : _) → validate_program.Learnt κs a v e → v ≡ Admitted
+    → verdict form1 (now (a .0)) (a .1 .0) ≡ []
 
 abbrev pub KnitValidateAdmits : Type 0
 KnitValidateAdmits = (κs : _) (a : _) (n : _) (e : _) → knit_validate.Learnt κs a n e → n ≡ 0
-    → verdict form1 (now (a .0)) (record { «max_registers» = a .1 .0; «max_functions» = a .1 .1 .0; «max_call_depth» = a .1 .1 .1 .0; «max_instrs_per_function» = a .1 .1 .1 .1 .0; «max_fuel» = a .1 .1 .1 .1 .1 .0 }) ≡ []
+    → verdict form1 (now (a .0)) (profileOf (a .1 .0) (a .1 .1 .0) (a .1 .1 .1 .0) (a .1 .1 .1 .1 .0) (a .1 .1 .1 .1 .1 .0)) ≡ []
 
 -- two calls with the same image, fuel and depth limit, in whatever memory, have the same numbers where neither is refused for room;
 -- over the C boundary the digest is among them
 abbrev pub ExecuteOutcomeSame : Type 0
-ExecuteOutcomeSame = (κs : _) (a : _) (r : _) (e : _) (κt : _) (b : _) (q : _) (f : _) → execute_outcome.Learnt κs a r e → execute_outcome.Learnt κt b q f
+ExecuteOutcomeSame = (κs : _) (a : _) (r : _) (e : _) (κt : _) (b : _) (q : _) (f : _)
+    → execute_outcome.Learnt κs a r e → execute_outcome.Learnt κt b q f
     → now (b .0) ≡ now (a .0) → b .1 .0 .fuel ≡ a .1 .0 .fuel → b .1 .0 .«max_call_depth» ≡ a .1 .0 .«max_call_depth»
     → NoRoom (outcomeNumbers r) → NoRoom (outcomeNumbers q) → outcomeNumbers q ≡ outcomeNumbers r
 
 abbrev pub KnitExecuteSame : Type 0
-KnitExecuteSame = (κs : _) (a : _) (n : _) (e : _) (κt : _) (b : _) (m : _) (f : _) → knit_execute.Learnt κs a n e → knit_execute.Learnt κt b m f
+KnitExecuteSame = (κs : _) (a : _) (n : _) (e : _) (κt : _) (b : _) (m : _) (f : _)
+    → knit_execute.Learnt κs a n e → knit_execute.Learnt κt b m f
     → now (b .0) ≡ now (a .0) → b .1 .0 ≡ a .1 .0 → b .1 .1 .0 ≡ a .1 .1 .0
     → NoRoom (n ∷ []) → NoRoom (m ∷ []) → (m ≡ n) × (now (f .1 .1 .1 .1 .1 .0) ≡ now (e .1 .1 .1 .1 .1 .0))

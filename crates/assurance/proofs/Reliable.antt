@@ -22,7 +22,7 @@ use Rattle.exec.specs.Execute.{outcomeNumbers, outcomeOf, executed, ended, exec
 use Rattle.capi.specs.Boundary.{numberOf, wordsOf, withDigest}
 use Rattle.course.specs.Course.{Refused}
 use Rattle.assurance.specs.Acceptance.{runs}
-use Rattle.assurance.specs.Callers.{numberIn, statusIn, usedIn, Lawful}
+use Rattle.assurance.specs.Callers.{numberIn, statusIn, usedIn, Reliable}
 use Rattle.assurance.proofs.Numbered.{Numbered, image-numbered}
 use Rattle.assurance.proofs.Acceptance.{acceptance}
 
@@ -67,8 +67,8 @@ module _ (bytes : List ℕ) (most fuel : ℕ) (fr rg : List ℕ) where
   abbrev f : Final
   f = runs (decode form1 bytes) most fuel fr rg
 
-  run-lawful : (ns : List ℕ) → Says (f .what) (f .used) ns → Lawful bytes most fuel fr rg ns
-  run-lawful ns h =
+  run-reliable : (ns : List ℕ) → Says (f .what) (f .used) ns → Reliable bytes most fuel fr rg ns
+  run-reliable ns h =
       let k = acceptance .fuelled (decode form1 bytes) most fuel fr rg in
       record {
         within = λ r. subst (λ (n : ℕ). n ≤ fuel) (sym (h .fuel)) (k .within);
@@ -83,8 +83,8 @@ module _ (bytes : List ℕ) (most fuel : ℕ) (fr rg : List ℕ) where
         places = λ profile v n s. acceptance .safe form1 bytes profile v most fuel fr rg .places (h .trap InvalidPc n s);
       }
 
-  fault-lawful : (ns : List ℕ) → 1 ≤ numberIn ns → numberIn ns ≤ 5 → Lawful bytes most fuel fr rg ns
-  fault-lawful ns l h =
+  fault-reliable : (ns : List ℕ) → 1 ≤ numberIn ns → numberIn ns ≤ 5 → Reliable bytes most fuel fr rg ns
+  fault-reliable ns l h =
       record {
         within = λ r. absurd (r l h);
         counts = λ r. absurd (r l h);
@@ -95,23 +95,23 @@ module _ (bytes : List ℕ) (most fuel : ℕ) (fr rg : List ℕ) where
         places = λ profile v n s. absurd (omega arith);
       }
 
-  pub answer-lawful : Lawful bytes most fuel fr rg (execution form1 unit bytes most fuel fr rg .answer)
+  pub answer-reliable : Reliable bytes most fuel fr rg (execution form1 unit bytes most fuel fr rg .answer)
   unfolding execution
-  answer-lawful = go (imageFault form1 bytes) (image-numbered form1 bytes)
+  answer-reliable = go (imageFault form1 bytes) (image-numbered form1 bytes)
     where
-      go : (fault : List ℕ) → Numbered 5 fault → Lawful bytes most fuel fr rg (pick (isFine fault) (ended f) (executed fault fr rg) .answer)
-      go [] h = run-lawful (outcomeNumbers (outcomeOf (f .what) (f .used))) (outcome-says (f .what) (f .used))
-      go (n ∷ ns) h = fault-lawful (n ∷ ns) (h .0) (h .1)
+      go : (fault : List ℕ) → Numbered 5 fault → Reliable bytes most fuel fr rg (pick (isFine fault) (ended f) (executed fault fr rg) .answer)
+      go [] h = run-reliable (outcomeNumbers (outcomeOf (f .what) (f .used))) (outcome-says (f .what) (f .used))
+      go (n ∷ ns) h = fault-reliable (n ∷ ns) (h .0) (h .1)
 
-  pub across-lawful : Lawful bytes most fuel fr rg (across (execution form1 unit bytes most fuel fr rg .answer))
+  pub across-reliable : Reliable bytes most fuel fr rg (across (execution form1 unit bytes most fuel fr rg .answer))
   unfolding execution
-  across-lawful = go (imageFault form1 bytes) (image-numbered form1 bytes)
+  across-reliable = go (imageFault form1 bytes) (image-numbered form1 bytes)
     where
-      go : (fault : List ℕ) → Numbered 5 fault → Lawful bytes most fuel fr rg (across (pick (isFine fault) (ended f) (executed fault fr rg) .answer))
-      go [] h = run-lawful (across (outcomeNumbers (outcomeOf (f .what) (f .used)))) (across-says (f .what) (f .used))
+      go : (fault : List ℕ) → Numbered 5 fault → Reliable bytes most fuel fr rg (across (pick (isFine fault) (ended f) (executed fault fr rg) .answer))
+      go [] h = run-reliable (across (outcomeNumbers (outcomeOf (f .what) (f .used)))) (across-says (f .what) (f .used))
       go (n ∷ ns) h =
           let e : numberIn (across (n ∷ ns)) ≡ n = across-fault n ns (h .0) in
-          fault-lawful (across (n ∷ ns)) (omega (arith, h .0)) (omega (arith, h .1))
+          fault-reliable (across (n ∷ ns)) (omega (arith, h .0)) (omega (arith, h .1))
 
   -- the number that crosses is the answer's
   pub number-across : numberIn (across (execution form1 unit bytes most fuel fr rg .answer)) ≡ numberIn (execution form1 unit bytes most fuel fr rg .answer)
