@@ -1,4 +1,4 @@
--- The laws by what the functions' own contracts tell. Assumes nothing.
+-- What callers can rely on, by what the functions' own contracts tell. Assumes nothing.
 use Prim.Native.Nat.{ℕ}
 use mathlib.Core.Path.{_≡_, refl, sym, ap, _∙_, subst}
 use mathlib.Core.List.{List, [], _∷_}

@@ -1,4 +1,4 @@
--- The numbers that an execution answers with keep the laws, as they stand and as they cross the C boundary. Assumes nothing.
+-- The numbers that an execution answers with can be relied on, as they stand and as they cross the C boundary. Assumes nothing.
 use Prim.Native.Nat.{ℕ, _≤_}
 use mathlib.Core.Path.{_≡_, refl, sym, ap, _∙_, subst}
 use mathlib.Core.List.{List, [], _∷_}
@@ -62,7 +62,7 @@ run-number (Trapped t) used = refl
 run-number FrameRoom used = refl
 run-number RegisterRoom used = refl
 
--- ---- the laws
+-- ---- what follows from that, and of a fault of the image
 module _ (bytes : List ℕ) (most fuel : ℕ) (fr rg : List ℕ) where
   abbrev f : Final
   f = runs (decode form1 bytes) most fuel fr rg
