@@ -72,7 +72,8 @@ module _ (bytes : List ℕ) (most fuel : ℕ) (fr rg : List ℕ) where
       let k = acceptance .fuelled (decode form1 bytes) most fuel fr rg in
       record {
         within = λ r. subst (λ (n : ℕ). n ≤ fuel) (sym (h .fuel)) (k .within);
-        counts = λ r. h .fuel ∙ k .counts;
+        counts = λ r m. h .fuel ∙ k .counted m .counts;
+        none = λ r n. h .fuel ∙ k .none n;
         whole = λ n s. h .fuel ∙ k .whole (h .trap FuelExceeded n s);
         room = λ e. record {
           frames = λ n. acceptance .roomy (decode form1 bytes) most fuel fr rg e (h .frames n);
@@ -87,7 +88,8 @@ module _ (bytes : List ℕ) (most fuel : ℕ) (fr rg : List ℕ) where
   fault-reliable ns l h =
       record {
         within = λ r. absurd (r l h);
-        counts = λ r. absurd (r l h);
+        counts = λ r m. absurd (r l h);
+        none = λ r n. absurd (r l h);
         whole = λ n s. absurd (omega arith);
         room = λ e. record { frames = λ n. omega arith; regs = λ n. omega arith };
         registers = λ profile v n s. omega arith;

@@ -15,7 +15,7 @@ use Rattle.exec.specs.declared.Ending.the-variants.{Returned}
 use Rattle.exec.specs.Price.{unit}
 use Rattle.exec.specs.Run.{Final}
 use Rattle.exec.specs.Execute.{entryState, entered, execution}
-use Rattle.course.specs.Course.{Refused, begunIn, Fuelled}
+use Rattle.course.specs.Course.{Refused, Fuelled}
 use Rattle.safety.specs.Safe.{Safe}
 use Rattle.room.specs.Room.{Enough}
 use Rattle.twins.specs.Twins.{Agree, SameEnd, Refusal, NoRoom}
@@ -35,7 +35,7 @@ pub record Acceptance : Type 0 where
       → Safe (decode L bytes) most (entryState (decode L bytes) frames regs) (runs (decode L bytes) most fuel frames regs)
   -- the fuel used counts the instructions begun, is never above the limit, and is the limit on FuelExceeded
   pub fuelled : (p : Program) (most fuel : ℕ) (frames regs : List ℕ)
-      → Fuelled p most fuel frames regs (runs p most fuel frames regs) (begunIn p unit most fuel frames regs)
+      → Fuelled p most fuel frames regs (runs p most fuel frames regs)
   -- with the room that document 01 names no execution is refused for room, of any program, admitted or not
   pub roomy : (p : Program) (most fuel : ℕ) (frames regs : List ℕ) → Enough p most frames regs
       → Refused (runs p most fuel frames regs .what) → ⊥

@@ -24,7 +24,8 @@ use Rattle.exec.proofs.execute_outcome.Reads as execute_outcome
 use Rattle.exec.proofs.CoreExecutor.execute_outcome.Reads as executor
 use Rattle.capi.proofs.knit_validate.Reads as knit_validate
 use Rattle.capi.proofs.knit_execute.Reads as knit_execute
-use Rattle.course.specs.Course.{begunIn}
+use Rattle.exec.specs.Begun.{begun}
+use Rattle.course.specs.Course.{Made}
 use Rattle.safety.specs.Safe.{AtLength}
 use Rattle.room.specs.Room.{Enough}
 use Rattle.twins.specs.Twins.{NoRoom}
@@ -46,9 +47,11 @@ Ran number = 1 ≤ number → number ≤ 5 → ⊥
 
 -- ---- the answer to an image, a depth limit, fuel and lent memory
 pub record Reliable (bytes : List ℕ) (most fuel : ℕ) (frames regs ns : List ℕ) : Type 0 where
-  -- the fuel used is never above the limit, counts the instructions begun, and is the limit on FuelExceeded
+  -- the fuel used is never above the limit, counts the instructions begun, if any could, and is the limit on FuelExceeded
   pub within : Ran (numberIn ns) → usedIn ns ≤ fuel
-  pub counts : Ran (numberIn ns) → usedIn ns ≡ length (begunIn (decode form1 bytes) unit most fuel frames regs)
+  pub counts : Ran (numberIn ns) → Made (decode form1 bytes) frames regs
+      → usedIn ns ≡ length (begun (decode form1 bytes) unit most fuel (entryState (decode form1 bytes) frames regs))
+  pub none : Ran (numberIn ns) → (Made (decode form1 bytes) frames regs → ⊥) → usedIn ns ≡ 0
   pub whole : numberIn ns ≡ 0 → statusIn ns ≡ statusWord (Trapped FuelExceeded) → usedIn ns ≡ fuel
   -- with enough lent memory it is no refusal for room
   pub room : Enough (decode form1 bytes) most frames regs → NoRoom ns

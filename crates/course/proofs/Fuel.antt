@@ -21,18 +21,18 @@ use Rattle.exec.specs.declared.Step.the-variants.{Go, Ends}
 use Rattle.exec.specs.Price.{Price, Fair, unit}
 use Rattle.exec.specs.Lent.{State, state}
 use Rattle.exec.specs.Step.{Stepped, stepped, stops, nextInstr, step, isPast, Inside}
-use Rattle.exec.specs.Run.{Final, costAt, run}
+use Rattle.exec.specs.Run.{Final, final, costAt, run}
 use Rattle.exec.specs.Begun.{begunAfter, begunFor, begun}
 use Rattle.exec.specs.Execute.{entryState, entered}
 use Rattle.exec.proofs.Runs.{unit-fair}
-use Rattle.course.specs.Course.{ahead, next, after, trail, GoesOn, Leads, Begin, charged, Stop, Course, begunIn, Fuelled}
+use Rattle.course.specs.Course.{ahead, next, after, trail, GoesOn, Leads, Begin, charged, Stop, Course, Counted, Made, Fuelled}
 use Rattle.course.specs.Course.Stop.{past, dry, acts}
 use Rattle.course.proofs.Cases.{step-cases, wentAt, window}
 use Rattle.course.proofs.Courses.{endCode, run-course}
 use Rattle.course.proofs.Traps.{Own, OwnWay, straight-own}
 use Rattle.course.proofs.Along.{Keeps}
 use Rattle.course.proofs.Counts.{used-begun}
-use Rattle.course.proofs.Entered.{begun-cases}
+use Rattle.course.proofs.Entered.{entered-cases}
 
 -- ---- neither InvalidPc nor FuelExceeded comes out of a step
 abbrev pub OfStep : Ending → Type 0
@@ -175,16 +175,29 @@ module _ (p : Program) (price : Price) (most : ℕ) where
   begun-begin fuel s = for-begin fuel fuel s
 
 -- ---- an execution
-pub fuelled : (p : Program) (most fuel : ℕ) (fr rg : List ℕ) → Fuelled p most fuel fr rg (entered p unit most fuel fr rg) (begunIn p unit most fuel fr rg)
-unfolding trail Begin
+pub counted : (p : Program) (most fuel : ℕ) (s : State) → Counted p most fuel s (run p unit most fuel s)
+counted p most fuel s = record {
+  counts = used-begun p most fuel s;
+  steps = begun-steps p unit most fuel s;
+  begin = begun-begin p unit most fuel s;
+  course = run-course p unit most unit-fair fuel s;
+}
+
+-- one whose entry frame is not made uses nothing
+unmade : (p : Program) (most fuel : ℕ) (fr rg : List ℕ) (e : Ending) → (endCode e ≡ endCode (Trapped FuelExceeded) → ⊥) → (Made p fr rg → ⊥) → Fuelled p most fuel fr rg (final e 0 fr rg)
+unmade p most fuel fr rg e unlike missing =
+    record { within = omega arith; whole = λ q. absurd (unlike (ap endCode q)); counted = λ m. absurd (missing m); none = λ n. refl }
+
+pub fuelled : (p : Program) (most fuel : ℕ) (fr rg : List ℕ) → Fuelled p most fuel fr rg (entered p unit most fuel fr rg)
 fuelled p most fuel fr rg =
-    begun-cases p unit most fuel fr rg (Fuelled p most fuel fr rg)
-    (λ e no unmade. record { within = omega arith; whole = λ q. absurd (no q); counts = refl; steps = refl; begin = tt; course = λ m. absurd (unmade m) })
-    (record {
-      within = never-above p unit unit-fair most fuel (entryState p fr rg);
-      whole = whole-limit p unit unit-fair most fuel (entryState p fr rg);
-      counts = used-begun p most fuel (entryState p fr rg);
-      steps = begun-steps p unit most fuel (entryState p fr rg);
-      begin = begun-begin p unit most fuel (entryState p fr rg);
-      course = λ m. run-course p unit most unit-fair fuel (entryState p fr rg);
+    entered-cases p unit most fuel fr rg (Fuelled p most fuel fr rg) (record {
+      unknown = λ l. unmade p most fuel fr rg (Trapped InvalidFunction) (λ q. omega arith) (λ m. omega (arith, m .known));
+      frames = λ _ l. unmade p most fuel fr rg FrameRoom (λ q. omega arith) (λ m. omega (arith, m .room));
+      registers = λ _ _ l. unmade p most fuel fr rg RegisterRoom (λ q. omega arith) (λ m. omega (arith, m .space));
+      runs = λ known room space. record {
+        within = never-above p unit unit-fair most fuel (entryState p fr rg);
+        whole = whole-limit p unit unit-fair most fuel (entryState p fr rg);
+        counted = λ m. counted p most fuel (entryState p fr rg);
+        none = λ n. absurd (n (record { known = known; room = room; space = space }));
+      };
     })

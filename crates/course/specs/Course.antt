@@ -2,9 +2,7 @@
 use Prim.Native.Nat.{ℕ, zero, suc, _+_, _-_, _≤_, _<_}
 use mathlib.Core.Path.{_≡_}
 use mathlib.Core.List.{List, [], _∷_}
-use lib.Dec.{ltb, leb}
 use lib.ListN.{length}
-use Rattle.basis.specs.Choice.{pick}
 use Rattle.runtime.specs.declared.CoreTrap.the-variants.{InvalidPc, FuelExceeded}
 use Rattle.image.specs.Program.{Program}
 use Rattle.image.specs.Parts.{functionsOf, regsOf, lengthOf}
@@ -90,27 +88,24 @@ pub record Course (p : Program) (price : Price) (most fuel : ℕ) (s : State) (f
   pub frames : f .frames ≡ after p most steps s .frames
   pub regs : f .regs ≡ after p most steps s .regs
 
+-- ---- the fuel that a run from s uses counts the states at which instructions begin; those are the steps from s on, at each of them one
+-- does begin, and none is left out: the run is a course of steps, each charged, and an end
+pub record Counted (p : Program) (most fuel : ℕ) (s : State) (f : Final) : Type 0 where
+  pub counts : f .used ≡ length (begun p unit most fuel s)
+  pub steps : begun p unit most fuel s ≡ trail p most (length (begun p unit most fuel s)) s
+  pub begin : Begin p most (length (begun p unit most fuel s)) s
+  pub course : Course p unit most fuel s f
+
 -- ---- the entry frame of an execution is made: its function exists, and there are a record and registers for it
 pub record Made (p : Program) (fr rg : List ℕ) : Type 0 where
   pub known : p .entry < functionsOf p
   pub room : frameWords ≤ length fr
   pub space : regsOf p (p .entry) ≤ length rg
 
--- the instructions that an execution begins: those of its run, where its entry frame is made
-unfoldable pub begunIn : Program → Price → ℕ → ℕ → List ℕ → List ℕ → List State
-begunIn p price most fuel fr rg =
-    pick (leb (functionsOf p) (p .entry)) []
-    (pick (ltb (length fr) frameWords) []
-    (pick (ltb (length rg) (regsOf p (p .entry))) []
-    (begun p price most fuel (entryState p fr rg))))
-
--- the fuel that an execution uses is never above the limit, is the whole limit on FuelExceeded, and counts the states at which
--- instructions begin; those are the steps from the entry frame on, at each of them one does begin, and none is left out: where the
--- entry frame is made the execution is a course of steps, each charged, and an end
-pub record Fuelled (p : Program) (most fuel : ℕ) (fr rg : List ℕ) (f : Final) (states : List State) : Type 0 where
+-- the fuel that an execution uses is never above the limit, and the whole limit on FuelExceeded; where the entry frame is made it counts
+-- the instructions begun from there, and else it is 0
+pub record Fuelled (p : Program) (most fuel : ℕ) (fr rg : List ℕ) (f : Final) : Type 0 where
   pub within : f .used ≤ fuel
   pub whole : f .what ≡ Trapped FuelExceeded → f .used ≡ fuel
-  pub counts : f .used ≡ length states
-  pub steps : states ≡ trail p most (length states) (entryState p fr rg)
-  pub begin : Begin p most (length states) (entryState p fr rg)
-  pub course : Made p fr rg → Course p unit most fuel (entryState p fr rg) f
+  pub counted : Made p fr rg → Counted p most fuel (entryState p fr rg) f
+  pub none : (Made p fr rg → ⊥) → f .used ≡ 0

@@ -13,7 +13,7 @@ use Rattle.runtime.proofs.Unique.{trapAt, trap-back}
 use Rattle.value.specs.declared.result.CoreStatus.{CoreStatus}
 use Rattle.value.specs.declared.result.CoreStatus.the-variants.{Returned, Trapped}
 use Rattle.value.specs.declared.result.CoreResult.{CoreResult}
-use Rattle.value.specs.Value.{register, valueAt, wordOf, Held}
+use Rattle.value.specs.Value.{register, valueAt, wordOf}
 use Rattle.value.specs.Result.{statusWord}
 use Rattle.value.proofs.Words as words
 use Rattle.image.specs.declared.ImageFault.the-variants.{Short, Form, Layout, FunctionTable, Instruction}
