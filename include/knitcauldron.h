@@ -21,27 +21,34 @@ extern "C" {
 #define KNIT_ADMITTED 0
 
 /* Image faults: the bytes are not an image. They are looked for in this order, before anything else, and the first one found is
- * the answer. Functions and instructions are numbered from 0, an instruction by its place in the whole instruction table. */
-#define KNIT_SHORT 1          /* Under 24 bytes. Answer: nothing. */
-#define KNIT_FORM 2           /* The form number is not 1. Answer: nothing. */
-#define KNIT_LAYOUT 3         /* An offset or a length differs from what the counts demand. Answer: nothing. */
-#define KNIT_FUNCTION_TABLE 4 /* Answer: the function's number, or the number of functions if only the sum of counts fails. */
-#define KNIT_INSTRUCTION 5    /* Opcode, small, w or an unused field. Answer: the instruction's number. */
+ * the answer. Functions and instructions are numbered from 0, an instruction by its place in the whole instruction table. What is
+ * said last of each number is what helps; where that is to compile again, whoever made the image has to do it. */
+#define KNIT_SHORT 1          /* Under 24 bytes. Answer: nothing. Fetch the image again, its end is missing. */
+#define KNIT_FORM 2           /* The form number is not 1. Answer: nothing. See that it is the right file, or compile for form 1. */
+#define KNIT_LAYOUT 3         /* An offset or a length differs from what the counts demand. Answer: nothing. Fetch the image again,
+                               * whole and with nothing after it. */
+#define KNIT_FUNCTION_TABLE 4 /* A function's zero field isn't 0, it doesn't start where the last one ended, or the counts don't
+                               * sum up. Answer: its number, or the number of functions if only the sum fails. Fetch or compile
+                               * the image again. */
+#define KNIT_INSTRUCTION 5    /* Opcode, small, w or an unused field. Answer: the instruction's number. Fetch or compile again. */
 
 /* Verdicts: the bytes are an image, but its program is not admitted. KNIT_PROFILE is looked for first, then KNIT_EMPTY_PROGRAM,
  * KNIT_TOO_MANY_FUNCTIONS and KNIT_INVALID_ENTRY, then the functions in their order; the first one found is the answer. In an
  * answer, "function" is the number of the function at fault. */
-#define KNIT_PROFILE 10               /* A limit is out of range. Answer: 0 if it is zero or 1 if it is too high; its place 1..5. */
-#define KNIT_EMPTY_PROGRAM 11         /* No function. Answer: nothing. */
-#define KNIT_INVALID_ENTRY 12         /* No such entry function. Answer: the entry. */
-#define KNIT_TOO_MANY_FUNCTIONS 13    /* Answer: how many there are; the limit. */
-#define KNIT_TOO_MANY_REGISTERS 14    /* Answer: function; its registers; the limit. */
-#define KNIT_TOO_MANY_INSTRUCTIONS 15 /* Answer: function; its instructions; the limit. */
-#define KNIT_INVALID_REGISTER 16      /* Answer: function; the register it does not have. */
-#define KNIT_INVALID_JUMP 17          /* Answer: function; the target past its end. */
-#define KNIT_INVALID_CALL 18          /* Answer: function; the called function that does not exist. */
-#define KNIT_MISSING_RETURN 19        /* Answer: function. */
-#define KNIT_INVALID_ARG_WINDOW 20    /* Answer: function; first argument register; number of arguments. */
+#define KNIT_PROFILE 10               /* A limit is out of range. Answer: 0 if it is zero or 1 if it is too high; its place 1..5.
+                                       * Mend the caller's limits, the image is not to blame. */
+#define KNIT_EMPTY_PROGRAM 11         /* No function. Answer: nothing. Ask for an upload that holds a rule. */
+#define KNIT_INVALID_ENTRY 12         /* No such entry function. Answer: the entry. Compile again with an entry that exists. */
+#define KNIT_TOO_MANY_FUNCTIONS 13    /* Answer: how many there are; the limit. Split the program, or raise the limit. */
+#define KNIT_TOO_MANY_REGISTERS 14    /* Answer: function; its registers; the limit. Split the function, or raise the limit. */
+#define KNIT_TOO_MANY_INSTRUCTIONS 15 /* Answer: function; its instructions; the limit. Split the function, or raise the limit. */
+#define KNIT_INVALID_REGISTER 16      /* Answer: function; the register it does not have. Compile again with enough registers. */
+#define KNIT_INVALID_JUMP 17          /* Answer: function; the target past its end. Compile again with targets inside it. */
+#define KNIT_INVALID_CALL 18          /* Answer: function; the called function that does not exist. Compile again, with it. */
+#define KNIT_MISSING_RETURN 19        /* It has no Ret at all. Answer: function. Compile again with a Ret in it. */
+#define KNIT_INVALID_ARG_WINDOW 20    /* The arguments end past the function's registers, or are more than the called function has.
+                                       * Answer: function; first argument register; number of arguments. Compile again with fewer
+                                       * arguments, or with more registers. */
 
 /*
  * Says whether the bytes are an image and whether its program keeps to five limits. Each limit must be at least 1; the highest
@@ -67,8 +74,8 @@ uint64_t knit_validate(const uint8_t *image, size_t image_len,
 #define KNIT_DONE 0
 
 /* Refusals for want of room: a frame would begin and the lent memory can't hold it. Answer: fuel used, 0 for the entry's frame. */
-#define KNIT_FRAME_ROOM 6    /* No record is left for it. */
-#define KNIT_REGISTER_ROOM 7 /* A record is left, but too few words for its registers. */
+#define KNIT_FRAME_ROOM 6    /* No record is left for it. Lend more words for frames, or lower max_call_depth. */
+#define KNIT_REGISTER_ROOM 7 /* A record is left, but too few words for its registers. Lend more, or lower max_call_depth. */
 
 /* How a run ended: 0, or 1 + the trap's code. A trap is a result, its value Unit. */
 #define KNIT_STATUS_RETURNED 0
@@ -149,6 +156,39 @@ uint64_t knit_execute(const uint8_t *image, size_t image_len, uint64_t fuel, uin
  * fuel used in turn. It is not FNV, whose prime is another.
  */
 uint64_t knit_digest(uint64_t status, uint64_t kind, uint64_t payload, uint64_t fuel_used);
+
+/* An image of more bytes than fit. Only the runner program answers this, in the line that it prints, since its buffer has 32768
+ * bytes; no function here does. Answer: 0. Send it a shorter image, or call knit_execute. */
+#define KNIT_TOO_LONG 8
+
+/* Fewer bytes are lent than an identifier has. Answer: nothing. Lend KNIT_EVENT_ID_BYTES. */
+#define KNIT_ID_ROOM 9
+
+/* How many bytes an event's identifier has. */
+#define KNIT_EVENT_ID_BYTES 25
+
+/*
+ * Writes document 01's identifier of a calendar event: the lesson's number as 8 lower-case hex digits, '-', and the digest as 16,
+ * each with leading zeros. The digest is meant to be a run's fifth word, but any number is taken.
+ *
+ * Returns 0, with the number of bytes written, KNIT_EVENT_ID_BYTES, as the answer; or KNIT_ID_ROOM if `out_len` is less than that.
+ * Writes all five words of `answer` in each case.
+ *
+ * What `out` holds afterwards:
+ * - The identifier in its first KNIT_EVENT_ID_BYTES bytes, with no terminating zero: whoever wants a C string lends one byte more
+ *   and sets it.
+ * - The bytes after these are as they were. If the call is refused, all bytes are as they were.
+ *
+ * The caller guarantees:
+ * - `out` is not null and points to `out_len` writable bytes, at any alignment. If `out_len` is 0 it still is not null; no byte is
+ *   touched then.
+ * - `answer` points to five writable words, aligned as uint64_t is, and they do not overlap `out`.
+ * - Nobody else reads or writes either while the call runs.
+ *
+ * In return the call writes nothing but those bytes and words, and what they held before doesn't matter. There is no state: equal
+ * arguments get equal answers, no call has to come first, and calls may run in parallel.
+ */
+uint64_t knit_event_id(uint32_t lesson, uint64_t digest, uint8_t *out, size_t out_len, uint64_t answer[KNIT_ANSWER_WORDS]);
 
 #ifdef __cplusplus
 }

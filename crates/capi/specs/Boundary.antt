@@ -7,6 +7,7 @@ use lib.ListN.{getD}
 use Rattle.basis.specs.Choice.{pick}
 use Rattle.value.specs.Digest.{digested}
 use Rattle.exec.specs.Execute.{Executed}
+use Rattle.text.specs.Identifier.{Identified}
 use Rattle.capi.specs.declared.Answer.{Answer}
 
 unfoldable pub numberOf : List ℕ → ℕ
@@ -50,3 +51,16 @@ crossing number words frames regs = record { number = number; words = words; fra
 
 unfoldable pub crossed : Executed → Crossing
 crossed e = let answer = withDigest (e .answer) in crossing (numberOf answer) (wordsOf answer) (e .frames) (e .regs)
+
+-- ---- an event identifier
+-- the number returned, the answer's words, and the lent bytes then
+pub record Naming : Type 0 where
+  pub number : ℕ
+  pub words : List ℕ
+  pub out : List ℕ
+
+abbrev pub naming : ℕ → List ℕ → List ℕ → Naming
+naming number words out = record { number = number; words = words; out = out }
+
+unfoldable pub named : Identified → Naming
+named i = naming (numberOf (i .answer)) (wordsOf (i .answer)) (i .out)

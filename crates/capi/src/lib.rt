@@ -8,6 +8,9 @@ use exec::config::CoreEnginePolicy;
 use exec::execute_outcome;
 use image::ImageFault;
 use runtime::CoreAdmissionProfile;
+use text::event::EVENT_ID_BYTES;
+use text::event::EventId;
+use text::event::event_id;
 use value::digest::digest_words;
 use value::result::CoreResult;
 ghost use mathlib.Core.Path.{_≡_};
@@ -18,7 +21,8 @@ ghost use Rattle.admission.specs.Verdict.{verdictNumbers, verdict};
 ghost use Rattle.exec.specs.declared.CoreOutcome.the-variants.{Done};
 ghost use Rattle.exec.specs.Price.{unit};
 ghost use Rattle.exec.specs.Execute.{outcomeNumbers, execution};
-ghost use Rattle.capi.specs.Boundary.{Answered, answerOf, withDigest, crossing, crossed};
+ghost use Rattle.text.specs.Identifier.{idNumbers, identification};
+ghost use Rattle.capi.specs.Boundary.{Answered, answerOf, withDigest, crossing, crossed, naming, named};
 
 // An answer's number and its five values, zeros after those that it has.
 pub struct Answer {
@@ -30,7 +34,7 @@ pub struct Answer {
     pub fifth: u64,
 }
 
-fn refuse(number: u64, first: usize, second: usize, third: usize) -> Answer
+fn answer_of(number: u64, first: usize, second: usize, third: usize) -> Answer
     ensures { λ r. ⌜ r ≡ record { number = number; first = first; second = second; third = third; fourth = 0; fifth = 0 } ⌝ }
 {
     Answer {
@@ -47,11 +51,11 @@ fn of_fault(fault: ImageFault) -> Answer
     ensures { λ r. ⌜ r ≡ answerOf (faultNumbers fault) ⌝ }
 {
     match fault {
-        ImageFault::Short => refuse(1, 0, 0, 0),
-        ImageFault::Form => refuse(2, 0, 0, 0),
-        ImageFault::Layout => refuse(3, 0, 0, 0),
-        ImageFault::FunctionTable(k) => refuse(4, k, 0, 0),
-        ImageFault::Instruction(k) => refuse(5, k, 0, 0),
+        ImageFault::Short => answer_of(1, 0, 0, 0),
+        ImageFault::Form => answer_of(2, 0, 0, 0),
+        ImageFault::Layout => answer_of(3, 0, 0, 0),
+        ImageFault::FunctionTable(k) => answer_of(4, k, 0, 0),
+        ImageFault::Instruction(k) => answer_of(5, k, 0, 0),
     }
 }
 
@@ -59,20 +63,20 @@ fn of_verdict(v: CoreValidation) -> Answer
     ensures { λ r. ⌜ r ≡ answerOf (verdictNumbers v) ⌝ }
 {
     match v {
-        CoreValidation::Admitted => refuse(0, 0, 0, 0),
+        CoreValidation::Admitted => answer_of(0, 0, 0, 0),
         CoreValidation::Image(fault) => of_fault(fault),
-        CoreValidation::ZeroLimit(field) => refuse(10, 0, field as usize, 0),
-        CoreValidation::UnboundedLimit(field) => refuse(10, 1, field as usize, 0),
-        CoreValidation::EmptyProgram => refuse(11, 0, 0, 0),
-        CoreValidation::InvalidEntry(entry) => refuse(12, entry, 0, 0),
-        CoreValidation::TooManyFunctions(n, max) => refuse(13, n, max, 0),
-        CoreValidation::TooManyRegisters(k, regs, max) => refuse(14, k, regs, max),
-        CoreValidation::TooManyInstructions(k, n, max) => refuse(15, k, n, max),
-        CoreValidation::InvalidRegister(k, reg) => refuse(16, k, reg, 0),
-        CoreValidation::InvalidJump(k, target) => refuse(17, k, target, 0),
-        CoreValidation::InvalidCall(k, target) => refuse(18, k, target, 0),
-        CoreValidation::MissingReturn(k) => refuse(19, k, 0, 0),
-        CoreValidation::InvalidArgWindow(k, base, count) => refuse(20, k, base, count),
+        CoreValidation::ZeroLimit(field) => answer_of(10, 0, field as usize, 0),
+        CoreValidation::UnboundedLimit(field) => answer_of(10, 1, field as usize, 0),
+        CoreValidation::EmptyProgram => answer_of(11, 0, 0, 0),
+        CoreValidation::InvalidEntry(entry) => answer_of(12, entry, 0, 0),
+        CoreValidation::TooManyFunctions(n, max) => answer_of(13, n, max, 0),
+        CoreValidation::TooManyRegisters(k, regs, max) => answer_of(14, k, regs, max),
+        CoreValidation::TooManyInstructions(k, n, max) => answer_of(15, k, n, max),
+        CoreValidation::InvalidRegister(k, reg) => answer_of(16, k, reg, 0),
+        CoreValidation::InvalidJump(k, target) => answer_of(17, k, target, 0),
+        CoreValidation::InvalidCall(k, target) => answer_of(18, k, target, 0),
+        CoreValidation::MissingReturn(k) => answer_of(19, k, 0, 0),
+        CoreValidation::InvalidArgWindow(k, base, count) => answer_of(20, k, base, count),
     }
 }
 
@@ -103,8 +107,17 @@ fn of_outcome(o: CoreOutcome) -> Answer
     match o {
         CoreOutcome::Done(result) => of_result(result),
         CoreOutcome::Image(fault) => of_fault(fault),
-        CoreOutcome::FrameRoom(used) => refuse(6, used as usize, 0, 0),
-        CoreOutcome::RegisterRoom(used) => refuse(7, used as usize, 0, 0),
+        CoreOutcome::FrameRoom(used) => answer_of(6, used as usize, 0, 0),
+        CoreOutcome::RegisterRoom(used) => answer_of(7, used as usize, 0, 0),
+    }
+}
+
+fn of_event_id(id: EventId) -> Answer
+    ensures { λ r. ⌜ r ≡ answerOf (idNumbers id) ⌝ }
+{
+    match id {
+        EventId::Written => answer_of(0, EVENT_ID_BYTES, 0, 0),
+        EventId::IdRoom => answer_of(9, 0, 0, 0),
     }
 }
 
@@ -160,4 +173,18 @@ pub extern "C" fn knit_digest(status: u64, kind: u64, payload: u64, fuel_used: u
     ensures { λ r. ⌜ r ≡ digested status kind payload «fuel_used» ⌝ }
 {
     digest_words(status, kind, payload, fuel_used)
+}
+
+#[no_mangle]
+pub extern "C" fn knit_event_id(
+    lesson: u32,
+    digest: u64,
+    out: &mut [u8],
+    answer: &mut [u64; 5],
+) -> u64
+    ensures { λ r. ⌜ naming r (now (answer .exit)) (now (out .exit)) ≡ named (identification lesson digest (now (out .entry))) ⌝ }
+{
+    let r = of_event_id(event_id(lesson, digest, out));
+    *answer = [r.first, r.second, r.third, r.fourth, r.fifth];
+    r.number
 }

@@ -7,10 +7,13 @@ use Rattle.runtime.proofs.Unique.{profile-unique, charge-unique}
 use Rattle.quad.proofs.Bits.{quad-unique}
 use Rattle.image.proofs.Unique.{check-unique}
 use Rattle.admission.proofs.Unique.{verdict-unique}
+use Rattle.text.proofs.Unique.{id-unique}
 use Rattle.straight.specs.Straight.{Local}
 use Rattle.exec.specs.Step.{Found}
 use Rattle.exec.specs.Execute.{Executed}
-use Rattle.capi.specs.Boundary.{Crossing}
+use Rattle.text.specs.Identifier.{Identified}
+use Rattle.text.specs.Line.{Replied}
+use Rattle.capi.specs.Boundary.{Crossing, Naming}
 use Rattle.basis.proofs.wrapping_mul_u64.Reads as «basis::wrapping_mul_u64»
 use Rattle.basis.proofs.bytes.join2.Reads as «basis::bytes::join2»
 use Rattle.basis.proofs.bytes.join4.Reads as «basis::bytes::join4»
@@ -82,9 +85,12 @@ use Rattle.exec.proofs.CoreExecutor.execute.Reads as «exec::CoreExecutor::exec
 use Rattle.exec.proofs.config.CoreConfig.default.Reads as «exec::config::CoreConfig::default»
 use Rattle.exec.proofs.config.CoreConfig.engine_policy.Reads as «exec::config::CoreConfig::engine_policy»
 use Rattle.exec.proofs.config.CoreConfig.with_engine_policy.Reads as «exec::config::CoreConfig::with_engine_policy»
+use Rattle.text.proofs.event.event_id.Reads as «text::event::event_id»
+use Rattle.text.proofs.line.reply.Reads as «text::line::reply»
 use Rattle.capi.proofs.knit_validate.Reads as «capi::knit_validate»
 use Rattle.capi.proofs.knit_execute.Reads as «capi::knit_execute»
 use Rattle.capi.proofs.knit_digest.Reads as «capi::knit_digest»
+use Rattle.capi.proofs.knit_event_id.Reads as «capi::knit_event_id»
 use Rattle.firm.specs.Firm.{One, OneAnd, OneHeld, HeldOutcome, HeldExecution}
 use Rattle.firm.proofs.Back.{outcome-unique, execution-unique}
 
@@ -310,6 +316,13 @@ pub «one·exec::config::CoreConfig::engine_policy» : (κs : _) (a : _) → One
 pub «one·exec::config::CoreConfig::with_engine_policy» : (κs : _) (a : _) → One («exec::config::CoreConfig::with_engine_policy».Learnt κs a)
 «one·exec::config::CoreConfig::with_engine_policy» κs a x y e f p q = p ∙ sym q
 
+-- ---- text: identifiers and lines
+pub «one·text::event::event_id» : (κs : _) (a : _) → OneAnd (λ e. now (e .1 .1 .0) ∷ []) («text::event::event_id».Learnt κs a)
+«one·text::event::event_id» κs a x y e f p q = let same = p ∙ sym q in (id-unique x y (ap (λ (i : Identified). i .answer) same), ap (λ (i : Identified). i .out ∷ []) same)
+
+pub «one·text::line::reply» : (κs : _) (a : _) → OneAnd (λ e. now (e .1 .1 .1 .1 .0) ∷ now (e .1 .1 .0) ∷ now (e .1 .1 .1 .0) ∷ []) («text::line::reply».Learnt κs a)
+«one·text::line::reply» κs a x y e f p q = let same = p .0 ∙ sym (q .0) in (ap (λ (r : Replied). r .count) same, ap (λ (r : Replied). r .line ∷ r .frames ∷ r .regs ∷ []) same)
+
 -- ---- capi: the C boundary
 pub «one·capi::knit_validate» : (κs : _) (a : _) → OneAnd (λ e. now (e .1 .1 .1 .1 .1 .1 .0) ∷ []) («capi::knit_validate».Learnt κs a)
 «one·capi::knit_validate» κs a x y e f p q = (p .0 ∙ sym (q .0), ap (λ (l : List ℕ). l ∷ []) (p .1 ∙ sym (q .1)))
@@ -319,3 +332,6 @@ pub «one·capi::knit_execute» : (κs : _) (a : _) → OneAnd (λ e. now (e .1 
 
 pub «one·capi::knit_digest» : (κs : _) (a : _) → One («capi::knit_digest».Learnt κs a)
 «one·capi::knit_digest» κs a x y e f p q = p ∙ sym q
+
+pub «one·capi::knit_event_id» : (κs : _) (a : _) → OneAnd (λ e. now (e .1 .1 .1 .0) ∷ now (e .1 .1 .0) ∷ []) («capi::knit_event_id».Learnt κs a)
+«one·capi::knit_event_id» κs a x y e f p q = let same = p ∙ sym q in (ap (λ (n : Naming). n .number) same, ap (λ (n : Naming). n .words ∷ n .out ∷ []) same)

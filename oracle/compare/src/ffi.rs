@@ -29,6 +29,14 @@ extern "C" {
     ) -> u64;
 
     fn knit_digest(status: u64, kind: u64, payload: u64, fuel_used: u64) -> u64;
+
+    fn knit_event_id(
+        lesson: u32,
+        digest: u64,
+        out: *mut u8,
+        out_len: usize,
+        answer: *mut u64,
+    ) -> u64;
 }
 
 /// Asks our engine whether an image is admitted under a profile.
@@ -84,4 +92,20 @@ pub fn execute(asked: Asked) -> u64 {
 pub fn digest([status, kind, payload, used]: [u64; 4]) -> u64 {
     // SAFETY: the call takes four numbers and touches no memory of ours.
     unsafe { knit_digest(status, kind, payload, used) }
+}
+
+/// Asks our engine for the event identifier of a lesson and a digest.
+pub fn event_id(lesson: u32, digest: u64, out: &mut [u8], answer: &mut [u64; 5]) -> u64 {
+    // SAFETY: the pointer goes with the length of its slice, the answer has the
+    // five words that the call writes, both are lent to nobody else until the
+    // call is over, and it keeps neither.
+    unsafe {
+        knit_event_id(
+            lesson,
+            digest,
+            out.as_mut_ptr(),
+            out.len(),
+            answer.as_mut_ptr(),
+        )
+    }
 }

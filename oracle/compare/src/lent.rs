@@ -71,6 +71,39 @@ impl LentWords {
     }
 }
 
+/// Bytes lent out to be written, with some before and after them. They follow
+/// a pattern, so that one that is written where it must stay is seen.
+#[derive(Debug, Clone, PartialEq, Eq)]
+pub struct LentBytes {
+    all: Vec<u8>,
+    start: usize,
+    length: usize,
+}
+
+impl LentBytes {
+    /// The salt chooses the pattern, and at which of 16 addresses the bytes
+    /// begin.
+    pub fn new(length: usize, salt: u64) -> Self {
+        let start = MARGIN + (salt % 16) as usize;
+        let byte = |at: u64| ((salt ^ WORD).wrapping_add(at).wrapping_mul(STRIDE) >> 56) as u8;
+        let all = (0..(start + length + MARGIN) as u64).map(byte).collect();
+        Self { all, start, length }
+    }
+
+    pub fn lent(&mut self) -> &mut [u8] {
+        &mut self.all[self.start..self.start + self.length]
+    }
+
+    /// Where another one that was made alike differs first. The place counts
+    /// from the first byte lent: what is before or after has none.
+    pub fn difference(&self, other: &Self) -> Option<Option<usize>> {
+        let mut pairs = self.all.iter().zip(&other.all);
+        let at = pairs.position(|(one, other)| one != other)?;
+        let inside = at.checked_sub(self.start);
+        Some(inside.filter(|place| *place < self.length))
+    }
+}
+
 /// Words lent out for frames or registers, with some before and after them.
 ///
 /// Each word differs from the others, so that one written to the wrong place,
@@ -148,6 +181,24 @@ mod tests {
                 other.all[at] ^= 1;
                 assert_eq!(one.difference(&other).unwrap().place, None);
             }
+        }
+    }
+
+    #[test]
+    fn a_byte_that_was_changed_is_found() {
+        let one = LentBytes::new(5, 3);
+        assert_eq!(one.difference(&LentBytes::new(5, 3)), None);
+        for (at, place) in [
+            (0, None),
+            (one.start - 1, None),
+            (one.start, Some(0)),
+            (one.start + 4, Some(4)),
+            (one.start + 5, None),
+            (one.all.len() - 1, None),
+        ] {
+            let mut other = one.clone();
+            other.all[at] ^= 1;
+            assert_eq!(one.difference(&other), Some(place));
         }
     }
 

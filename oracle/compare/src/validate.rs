@@ -4,36 +4,37 @@ use std::io::{self, Write};
 
 use oracle::generate::Case;
 use oracle::verdict::{of_image, Answer};
+use oracle::worked::verdicts::{self, Worked};
 use semantic_core_runtime::CoreAdmissionProfile;
 
 use crate::lent::{LentImage, LentWords};
+use crate::plan::Plan;
+use crate::progress::Progress;
+use crate::report;
+use crate::shrink::shrink;
 use crate::tally::Tally;
-use crate::worked::{self, Worked};
 
 /// An engine to compare with: image, profile, room for the answer's words; it
 /// gives the answer's number.
 pub type Engine = fn(&mut [u8], CoreAdmissionProfile, &mut [u64; 5]) -> u64;
 
-/// A line longer than this is not printed whole.
-const LONGEST_LINE: usize = 4_000;
-
-/// Compares the worked cases, then so many generated ones, up to the first
-/// that differs. Says whether all were equal and every answer occurred.
-pub fn validate(
+/// Compares generated cases, up to the first that differs. Says whether all
+/// were equal, and if that is asked for, every answer occurred.
+pub fn compare_generated(
     engine: Engine,
-    seed: u64,
-    count: u64,
+    plan: Plan,
     output: &mut impl Write,
+    progress: &mut Progress<impl Write>,
 ) -> io::Result<bool> {
-    if !compare_worked(engine, output)? {
-        return Ok(false);
-    }
     let mut tally = Tally::default();
-    for number in 0..count {
-        let case = Case::new(seed, number);
+    progress.begin("validate", plan.count);
+    for number in 0..plan.count {
+        progress.done(number)?;
+        let case = Case::new(plan.seed, number);
         let expected = of_image(&case.image, case.profile);
         if let Some(fault) = fault(engine, &case, number, &expected) {
-            report_generated(output, seed, number, &case, &fault)?;
+            report_generated(output, plan.seed, number, &case, &fault)?;
+            report_shrunk(output, engine, number, case)?;
             return Ok(false);
         }
         tally.add(&expected);
@@ -44,13 +45,13 @@ pub fn validate(
     if !missing.is_empty() {
         writeln!(output, "never occurred: {}", missing.join(", "))?;
     }
-    Ok(missing.is_empty())
+    Ok(missing.is_empty() || !plan.complete)
 }
 
 /// The answer of a worked case is written out with it, and both sides must
 /// give it.
-fn compare_worked(engine: Engine, output: &mut impl Write) -> io::Result<bool> {
-    let cases = worked::all();
+pub fn compare_worked(engine: Engine, output: &mut impl Write) -> io::Result<bool> {
+    let cases = verdicts::all();
     for (number, worked) in cases.iter().enumerate() {
         let Worked {
             about,
@@ -65,11 +66,15 @@ fn compare_worked(engine: Engine, output: &mut impl Write) -> io::Result<bool> {
         };
         if let Some(fault) = fault {
             writeln!(output, "worked case \"{about}\": {fault}")?;
-            writeln!(output, "{}", cut(&case.line()).0)?;
+            report::write_worked(output, &case.line())?;
             return Ok(false);
         }
     }
-    writeln!(output, "compared {} worked cases: equal", cases.len())?;
+    writeln!(
+        output,
+        "compared {} worked cases of admission: equal",
+        cases.len()
+    )?;
     Ok(true)
 }
 
@@ -106,25 +111,27 @@ fn report_generated(
     fault: &str,
 ) -> io::Result<()> {
     writeln!(output, "case {number} of seed {seed}: {fault}")?;
-    let line = case.line();
-    let (shown, whole) = cut(&line);
-    writeln!(output, "{shown}")?;
-    if !whole {
-        let length = line.len();
-        writeln!(
-            output,
-            "cut, of {length} characters; the whole line: compare case {seed} {number}"
-        )?;
-    }
-    Ok(())
+    let whole = format!("compare case {seed} {number}");
+    report::write_case(output, &case.line(), &whole)?;
+    output.flush()
 }
 
-/// As much of a line as is printed, and whether that is all of it.
-pub fn cut(line: &str) -> (&str, bool) {
-    match line.get(..LONGEST_LINE) {
-        Some(start) if line.len() > LONGEST_LINE => (start, false),
-        _ => (line, true),
-    }
+/// A smaller case that differs too. Its image is lent at the same address, as
+/// far as the number decides on that.
+fn report_shrunk(
+    output: &mut impl Write,
+    engine: Engine,
+    number: u64,
+    case: Case,
+) -> io::Result<()> {
+    let fault_of = |case: &Case| {
+        let expected = of_image(&case.image, case.profile);
+        fault(engine, case, number, &expected)
+    };
+    let shrunk = shrink(case, |case| fault_of(case).is_some());
+    let fault = fault_of(&shrunk.case).unwrap_or_default();
+    writeln!(output, "{}: {fault}", shrunk.about())?;
+    report::write_shrunk(output, &shrunk.case.line())
 }
 
 #[cfg(test)]

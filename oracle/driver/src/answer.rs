@@ -3,25 +3,33 @@
 use semantic_core_exec::CoreProgram;
 use semantic_core_runtime::CoreAdmissionProfile;
 
-use crate::lines::Bad;
+use crate::image::{self, Fault};
 use crate::text::{decimal, hex_bytes};
-use crate::{image, run, verdict};
+use crate::{operate, run, verdict};
 
-/// Answers one line. All fields are read before the image is looked into, so a
-/// line that is wrong in both ways is a bad line.
-pub fn answer(line: &[u8]) -> Result<String, Bad> {
+/// Answers one line; nothing for one that has none of the forms. All fields
+/// are read before the image is looked into, so a line that is wrong in both
+/// ways has none.
+pub fn answer(line: &[u8]) -> Option<String> {
     let fields: Vec<&[u8]> = line.split(|byte| *byte == b' ').collect();
     match fields.as_slice() {
+        [b"operate", operation @ ..] => operate::answer(operation),
         [b"validate", limits @ .., image] => {
-            let profile = profile(limits).ok_or(Bad::Line)?;
-            Ok(verdict::answer(&program(image)?, profile))
+            let profile = profile(limits)?;
+            let image = hex_bytes(image)?;
+            Some(of_image(&image, |program| {
+                verdict::answer(program, profile)
+            }))
         }
         [b"run", fuel, depth, image] => {
-            let fuel = decimal(fuel).ok_or(Bad::Line)?;
-            let depth = decimal(depth).ok_or(Bad::Line)?;
-            Ok(run::answer(&program(image)?, fuel, depth))
+            let fuel = decimal(fuel)?;
+            let depth = decimal(depth)?;
+            let image = hex_bytes(image)?;
+            Some(of_image(&image, |program| {
+                run::answer(program, fuel, depth)
+            }))
         }
-        _ => Err(Bad::Line),
+        _ => None,
     }
 }
 
@@ -38,9 +46,17 @@ fn profile(limits: &[&[u8]]) -> Option<CoreAdmissionProfile> {
     })
 }
 
-fn program(image: &[u8]) -> Result<CoreProgram, Bad> {
-    let bytes = hex_bytes(image).ok_or(Bad::Line)?;
-    image::read(&bytes).map_err(Bad::Image)
+/// Image faults come before everything else that is asked about a program.
+fn of_image(image: &[u8], of_program: impl Fn(&CoreProgram) -> String) -> String {
+    match image::read(image) {
+        Ok(program) => of_program(&program),
+        Err(fault) => refused(fault),
+    }
+}
+
+/// `refused NUMBER ANSWER`: document 01's number of the fault and its answer.
+pub fn refused(fault: Fault) -> String {
+    format!("refused {} {}", fault.number(), fault.answer())
 }
 
 #[cfg(test)]

@@ -27,6 +27,16 @@ impl Field {
         }
     }
 
+    pub fn get(self, record: &Record) -> u32 {
+        match self {
+            Small => record.small.into(),
+            A => record.a.into(),
+            B => record.b.into(),
+            C => record.c.into(),
+            W => record.w,
+        }
+    }
+
     /// Where the field stands in the record's bytes, and its width.
     pub fn place(self) -> (usize, usize) {
         match self {
@@ -85,6 +95,15 @@ mod tests {
                 assert_eq!(taken, used(opcode).contains(&field), "{opcode} {field:?}");
             }
         }
+    }
+
+    #[test]
+    fn what_is_set_is_got() {
+        let mut record = plain(0);
+        for (value, field) in (1..).zip(FIELDS) {
+            field.set(&mut record, value);
+        }
+        assert_eq!(FIELDS.map(|field| field.get(&record)), [1, 2, 3, 4, 5]);
     }
 
     #[test]

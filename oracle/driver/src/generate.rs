@@ -80,6 +80,21 @@ pub fn program(seed: u64, number: u64) -> Program {
     program
 }
 
+/// One image to run in so many is one of the admission's cases: a quarter of
+/// them has faults, half has operands out of place, and some have as many
+/// registers or functions as there can be. At this place none is large.
+const ADMISSION_EVERY: u64 = 8;
+const ADMISSION_AT: u64 = 2;
+
+/// An image to run: a program's, but for one in eight.
+pub fn image(seed: u64, number: u64) -> Vec<u8> {
+    if number % ADMISSION_EVERY == ADMISSION_AT {
+        Case::new(seed, number).image
+    } else {
+        program(seed, number).image()
+    }
+}
+
 /// Makes some Fx values a little larger. Those of programs in order are whole
 /// quarters, whose products and quotients seldom need rounding.
 fn uneven_fx(random: &mut SplitMix64, program: &mut Program) {

@@ -46,7 +46,7 @@ impl Fault {
     }
 }
 
-/// An image in which no fault was found, its records as they stand.
+/// An image's tables, their records as they stand.
 #[derive(Debug, Clone, PartialEq, Eq)]
 pub struct Tables {
     pub entry: u16,
@@ -66,12 +66,26 @@ pub struct FunctionRow {
 /// Checks an image. Faults are looked for in document 01's order: length, form,
 /// layout, all functions, all instructions; the first one is the answer.
 pub fn check(image: &[u8]) -> Result<Tables, Fault> {
+    let tables = tables(image)?;
+    let fault = |record: &Record| record.instruction().is_none();
+    match tables.instructions.iter().position(fault) {
+        Some(number) => Err(Fault::Instruction(number as u32)),
+        None => Ok(tables),
+    }
+}
+
+/// The tables of bytes that have no fault but in instructions, which are not
+/// looked at here.
+pub fn tables(image: &[u8]) -> Result<Tables, Fault> {
     let header = Header::read(image)?;
     let (functions, instructions) = image[HEADER..].split_at(header.function_bytes());
     Ok(Tables {
         entry: header.entry,
         functions: function_table(functions, header.instruction_count)?,
-        instructions: instruction_table(instructions)?,
+        instructions: instructions
+            .chunks_exact(INSTRUCTION_RECORD)
+            .map(Record::read)
+            .collect(),
     })
 }
 
@@ -164,18 +178,6 @@ fn function_table(table: &[u8], instruction_count: u32) -> Result<Vec<FunctionRo
         return Err(Fault::FunctionTable(rows.len() as u32));
     }
     Ok(rows)
-}
-
-fn instruction_table(table: &[u8]) -> Result<Vec<Record>, Fault> {
-    table
-        .chunks_exact(INSTRUCTION_RECORD)
-        .map(Record::read)
-        .enumerate()
-        .map(|(number, record)| match record.instruction() {
-            Some(_) => Ok(record),
-            None => Err(Fault::Instruction(number as u32)),
-        })
-        .collect()
 }
 
 /// One instruction record, as its fields stand in the image.

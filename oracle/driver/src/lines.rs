@@ -3,24 +3,18 @@
 
 use std::io::{self, BufRead, BufWriter, Write};
 
-use crate::image::Fault;
+/// What is written for a line that has no answer.
+pub const BAD: &str = "bad line";
 
-/// Why a line gets no answer.
-#[derive(Debug, Clone, Copy, PartialEq, Eq)]
-pub enum Bad {
-    Line,
-    Image(Fault),
-}
-
-/// Answers every line of the input. Says whether all of them were good.
+/// Answers every line of the input. Says whether all of them had an answer.
 ///
-/// A bad line does not end the work. What is wrong with it goes to `notes`, so
-/// that the output keeps to its few fixed forms.
+/// A bad line does not end the work. Its number goes to `notes`, so that the
+/// output keeps to its few fixed forms.
 pub fn answer_all(
     mut input: impl BufRead,
     output: impl Write,
     notes: impl Write,
-    mut answer: impl FnMut(&[u8]) -> Result<String, Bad>,
+    mut answer: impl FnMut(&[u8]) -> Option<String>,
 ) -> io::Result<bool> {
     let mut output = BufWriter::new(output);
     let mut notes = BufWriter::new(notes);
@@ -30,10 +24,11 @@ pub fn answer_all(
     while input.read_until(b'\n', &mut line)? != 0 {
         number += 1;
         match answer(line.strip_suffix(b"\n").unwrap_or(&line)) {
-            Ok(text) => writeln!(output, "{text}")?,
-            Err(bad) => {
+            Some(text) => writeln!(output, "{text}")?,
+            None => {
                 all_good = false;
-                write_bad(&mut output, &mut notes, number, bad)?;
+                writeln!(output, "{BAD}")?;
+                writeln!(notes, "line {number}: {BAD}")?;
             }
         }
         line.clear();
@@ -43,35 +38,14 @@ pub fn answer_all(
     Ok(all_good)
 }
 
-fn write_bad(
-    output: &mut impl Write,
-    notes: &mut impl Write,
-    number: u64,
-    bad: Bad,
-) -> io::Result<()> {
-    match bad {
-        Bad::Line => {
-            writeln!(output, "bad line")?;
-            writeln!(notes, "line {number}: bad line")
-        }
-        Bad::Image(fault) => {
-            let (refusal, at) = (fault.number(), fault.answer());
-            writeln!(output, "bad image")?;
-            writeln!(notes, "line {number}: bad image, refused {refusal} {at}")
-        }
-    }
-}
-
 #[cfg(test)]
 mod tests {
     use super::*;
 
     fn all(input: &[u8]) -> (bool, String, String) {
         let (mut output, mut notes) = (Vec::new(), Vec::new());
-        let good = answer_all(input, &mut output, &mut notes, |line| match line {
-            b"image" => Err(Bad::Image(Fault::FunctionTable(3))),
-            b"good" => Ok("fine".to_string()),
-            _ => Err(Bad::Line),
+        let good = answer_all(input, &mut output, &mut notes, |line| {
+            (line == b"good").then(|| "fine".to_string())
         });
         let text = |bytes| String::from_utf8(bytes).unwrap();
         (good.unwrap(), text(output), text(notes))
@@ -91,14 +65,10 @@ mod tests {
 
     #[test]
     fn a_bad_line_is_answered_and_the_next_one_too() {
-        let (good, output, notes) = all(b"good\nimage\n\n\xff\ngood\r\ngood\n");
+        let (good, output, notes) = all(b"good\n\n\xff\ngood\r\ngood\n");
         assert!(!good);
-        assert_eq!(
-            output,
-            "fine\nbad image\nbad line\nbad line\nbad line\nfine\n"
-        );
-        let expected = "line 2: bad image, refused 4 3\n\
-            line 3: bad line\nline 4: bad line\nline 5: bad line\n";
+        assert_eq!(output, "fine\nbad line\nbad line\nbad line\nfine\n");
+        let expected = "line 2: bad line\nline 3: bad line\nline 4: bad line\n";
         assert_eq!(notes, expected);
     }
 }

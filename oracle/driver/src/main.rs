@@ -1,23 +1,32 @@
 //! Asks the original Rust engine, built unchanged, for its answers.
 //!
-//! `oracle answer` answers lines about whole programs, `oracle operate` the
-//! lines of the fixed list of operations, which `oracle operate-cases` writes.
+//! `oracle answer` answers lines about operations and about whole programs;
+//! `oracle list` writes the fixed list of such lines. `oracle images` writes
+//! images for people; the other commands say what the runner does with images.
 
 use std::env;
-use std::io::{self, BufReader};
+use std::fs;
+use std::io::{self, BufReader, Write};
+use std::path::Path;
 use std::process::ExitCode;
 
-use oracle::{answer, cases, lines, operate};
+use oracle::{answer, examples, lines, list, runner};
+
+const USAGE: &str =
+    "usage: oracle answer | list | images FOLDER | runner-lines | listings | runner-cases";
 
 fn main() -> ExitCode {
     let arguments: Vec<String> = env::args().skip(1).collect();
     let names: Vec<&str> = arguments.iter().map(String::as_str).collect();
     let done = match names.as_slice() {
         ["answer"] => answer_lines(),
-        ["operate"] => operate_lines(),
-        ["operate-cases"] => cases::write(io::stdout().lock(), io::stderr()).map(|()| true),
+        ["list"] => list::write(io::stdout().lock(), io::stderr()),
+        ["images", folder] => write_images(Path::new(folder)).map(|()| true),
+        ["runner-lines"] => write_text(&runner::table()),
+        ["listings"] => write_text(&runner::listings()),
+        ["runner-cases"] => runner::write_cases(io::stdout().lock()).map(|()| true),
         _ => {
-            eprintln!("usage: oracle answer | operate | operate-cases");
+            eprintln!("{USAGE}");
             return ExitCode::from(2);
         }
     };
@@ -32,17 +41,19 @@ fn main() -> ExitCode {
 }
 
 fn answer_lines() -> io::Result<bool> {
-    lines::answer_all(input(), io::stdout().lock(), io::stderr(), answer::answer)
+    let input = BufReader::with_capacity(1 << 16, io::stdin());
+    lines::answer_all(input, io::stdout().lock(), io::stderr(), answer::answer)
 }
 
-fn operate_lines() -> io::Result<bool> {
-    let mut tally = operate::Tally::default();
-    let answer = |line: &[u8]| tally.answer(line);
-    let good = lines::answer_all(input(), io::stdout().lock(), io::stderr(), answer)?;
-    eprint!("{}", tally.report());
-    Ok(good)
+fn write_images(folder: &Path) -> io::Result<()> {
+    fs::create_dir_all(folder)?;
+    for example in examples::all() {
+        fs::write(folder.join(example.file), example.image)?;
+    }
+    Ok(())
 }
 
-fn input() -> BufReader<io::Stdin> {
-    BufReader::with_capacity(1 << 16, io::stdin())
+fn write_text(text: &str) -> io::Result<bool> {
+    io::stdout().lock().write_all(text.as_bytes())?;
+    Ok(true)
 }

@@ -1,13 +1,12 @@
-//! The fixed list's lines: one operation on two registers, answered by a
-//! program of a few instructions that the Rust runs.
+//! Lines about one operation on two registers, answered by a program of a few
+//! instructions that the Rust runs.
 
 use semantic_core_exec::{
     CoreConfig, CoreExecutor, CoreFunction, CoreProgram, CoreResult, CoreStatus, Instr,
 };
-use semantic_core_runtime::{CoreTrap, FunctionId, SymbolId};
+use semantic_core_runtime::{FunctionId, SymbolId};
 
 use crate::image::Record;
-use crate::lines::Bad;
 use crate::text::hex_number;
 use crate::word::{self, value_word};
 
@@ -19,8 +18,7 @@ const REGS: u16 = 3;
 const MISSING: u16 = 7;
 const MISSING_FIELD: &str = "----------------";
 
-/// One case of the fixed list. A missing operand is `None`, any other one a
-/// register word.
+/// One operation. A missing operand is `None`, any other one a register word.
 #[derive(Debug, Clone, Copy, PartialEq, Eq, Hash)]
 pub struct Case {
     pub opcode: u8,
@@ -36,7 +34,7 @@ pub fn one_operand(opcode: u8) -> bool {
 }
 
 impl Case {
-    /// The line without its line feed: always 48 bytes.
+    /// The line without its line feed: always 56 bytes.
     pub fn line(&self) -> String {
         let operand = |word: Option<u64>| match word {
             Some(word) => format!("{word:016x}"),
@@ -44,14 +42,14 @@ impl Case {
         };
         let (lhs, rhs) = (operand(self.lhs), operand(self.rhs));
         format!(
-            "{:02x} {:02x} {:08x} {lhs} {rhs}",
+            "operate {:02x} {:02x} {:08x} {lhs} {rhs}",
             self.opcode, self.small, self.w
         )
     }
 
-    pub fn read(line: &[u8]) -> Option<Self> {
-        let fields: Vec<&[u8]> = line.split(|byte| *byte == b' ').collect();
-        let [opcode, small, w, lhs, rhs] = fields.as_slice() else {
+    /// Reads the fields that follow the line's first word.
+    pub fn read(fields: &[&[u8]]) -> Option<Self> {
+        let [opcode, small, w, lhs, rhs] = fields else {
             return None;
         };
         Some(Self {
@@ -151,43 +149,14 @@ fn load(register: u16, word: u64) -> Option<Instr> {
     .instruction()
 }
 
-/// How many answers of each sort were given.
-#[derive(Debug, Default)]
-pub struct Tally {
-    values: u64,
-    traps: [u64; 10],
-}
-
-impl Tally {
-    /// Answers one line of the list and counts the answer.
-    pub fn answer(&mut self, line: &[u8]) -> Result<String, Bad> {
-        let result = Case::read(line)
-            .and_then(|case| case.result())
-            .ok_or(Bad::Line)?;
-        Ok(match result.status {
-            CoreStatus::Returned => {
-                self.values += 1;
-                format!("value {:016x}", value_word(result.return_value))
-            }
-            CoreStatus::Trapped(trap) => self.trap(trap),
-        })
-    }
-
-    fn trap(&mut self, trap: CoreTrap) -> String {
-        self.traps[usize::from(trap.code())] += 1;
-        format!("trap {}", trap.code())
-    }
-
-    /// One line for each sort of answer that was given.
-    pub fn report(&self) -> String {
-        let mut text = format!("value: {}\n", self.values);
-        for (code, count) in self.traps.iter().enumerate() {
-            if *count > 0 {
-                text.push_str(&format!("trap {code}: {count}\n"));
-            }
-        }
-        text
-    }
+/// `value WORD` or `trap CODE`; nothing for fields that are no operation, or
+/// one that no image could hold.
+pub fn answer(fields: &[&[u8]]) -> Option<String> {
+    let result = Case::read(fields)?.result()?;
+    Some(match result.status {
+        CoreStatus::Returned => format!("value {:016x}", value_word(result.return_value)),
+        CoreStatus::Trapped(trap) => format!("trap {}", trap.code()),
+    })
 }
 
 #[cfg(test)]

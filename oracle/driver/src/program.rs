@@ -3,7 +3,7 @@
 //! Operands may be out of place and sizes past any limit: whatever the fields
 //! can hold is written. Faults of the image itself are made in its bytes.
 
-use crate::image::Record;
+use crate::image::{Record, Tables};
 
 /// The 64-byte image of document 01, section "Runner", in hex.
 pub const DOCUMENT_IMAGE: &str = "\
@@ -31,6 +31,20 @@ impl Program {
         Self {
             entry: 0,
             functions: vec![Function::new(regs, instrs)],
+        }
+    }
+
+    /// The program whose image has these tables.
+    pub fn of_tables(tables: &Tables) -> Self {
+        let mut instrs = tables.instructions.iter().copied();
+        let functions = tables.functions.iter().map(|row| Function {
+            name_id: row.name_id,
+            regs: row.regs,
+            instrs: instrs.by_ref().take(row.count as usize).collect(),
+        });
+        Self {
+            entry: tables.entry,
+            functions: functions.collect(),
         }
     }
 
@@ -91,4 +105,22 @@ fn record_bytes(record: &Record) -> [u8; 12] {
     bytes[6..8].copy_from_slice(&record.c.to_le_bytes());
     bytes[8..12].copy_from_slice(&record.w.to_le_bytes());
     bytes
+}
+
+#[cfg(test)]
+mod tests {
+    use super::*;
+    use crate::generate;
+    use crate::image::tables;
+    use crate::records::plain;
+
+    #[test]
+    fn a_program_is_that_of_its_images_tables() {
+        for number in 0..200 {
+            let mut program = generate::program(7, number);
+            program.functions[0].instrs.push(plain(56));
+            let tables = tables(&program.image()).unwrap();
+            assert_eq!(Program::of_tables(&tables), program);
+        }
+    }
 }

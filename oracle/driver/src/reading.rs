@@ -20,7 +20,7 @@ pub const RECORD: usize = 4;
 const UNIT_WORD: u64 = 0;
 
 /// What a run may use up, besides lent memory.
-#[derive(Debug, Clone, Copy, PartialEq, Eq)]
+#[derive(Debug, Clone, Copy, PartialEq, Eq, Hash)]
 pub struct Limits {
     pub fuel: u64,
     pub max_call_depth: u16,

@@ -3,6 +3,9 @@
 
 use semantic_core_exec::{CoreConfig, CoreExecutor, CoreProgram, CoreResultDigest, CoreStatus};
 
+use crate::image;
+use crate::reading::Limits;
+use crate::text::hex;
 use crate::verdict::Answer;
 use crate::word::kind_and_payload;
 
@@ -45,6 +48,42 @@ pub fn describe(answer: &Answer) -> String {
     let [first, second, third, fourth, fifth] = answer.words;
     let number = answer.number;
     format!("{number} ({name}), words {first} {second} {third} {fourth} {fifth}")
+}
+
+/// What is asked: how does a run of this image end under these limits?
+#[derive(Debug, Clone, PartialEq, Eq, Hash)]
+pub struct Case {
+    pub image: Vec<u8>,
+    pub limits: Limits,
+}
+
+impl Case {
+    /// The line that asks `oracle answer` about this case.
+    pub fn line(&self) -> String {
+        line(&self.image, self.limits)
+    }
+
+    /// The image's fault, or else the Rust's answer.
+    pub fn answer(&self) -> Answer {
+        of_image(&self.image, self.limits)
+    }
+}
+
+/// The line that asks `oracle answer` about a run.
+pub fn line(image: &[u8], limits: Limits) -> String {
+    let Limits {
+        fuel,
+        max_call_depth,
+    } = limits;
+    format!("run {fuel} {max_call_depth} {}", hex(image))
+}
+
+/// The answer for an image in bytes: its fault, or else the Rust's answer.
+pub fn of_image(image: &[u8], limits: Limits) -> Answer {
+    match image::read(image) {
+        Ok(program) => of_program(&program, limits.fuel, limits.max_call_depth),
+        Err(fault) => fault.into(),
+    }
 }
 
 /// The Rust's answer: status, kind, payload, fuel used, digest.

@@ -47,40 +47,45 @@ fn bad_lines_end_with_1_and_do_not_stop_the_rest() {
     let input = format!("nonsense\nrun 1 1 -\nvalidate 1 1 1 1 1 {EMPTY}\n");
     let output = oracle(&["answer"], &input);
     assert_eq!(output.status.code(), Some(1));
-    assert_eq!(text(&output.stdout), "bad line\nbad image\nrefused 11\n");
-    let notes = "line 1: bad line\nline 2: bad image, refused 1 0\n";
-    assert_eq!(text(&output.stderr), notes);
+    assert_eq!(text(&output.stdout), "bad line\nrefused 1 0\nrefused 11\n");
+    assert_eq!(text(&output.stderr), "line 1: bad line\n");
+}
+
+/// The number that stands behind a name in the notes of `oracle list`.
+fn noted(notes: &str, name: &str) -> usize {
+    let start = format!("{name}: ");
+    let mut counts = notes.lines().filter_map(|line| line.strip_prefix(&start));
+    counts.next().unwrap().parse().unwrap()
 }
 
 #[test]
 fn the_list_is_answered_line_by_line() {
-    let cases = oracle(&["operate-cases"], "");
-    assert_eq!(cases.status.code(), Some(0));
-    let answers = oracle(&["operate"], text(&cases.stdout));
-    // The last seven lines are no cases, and nothing before them is bad.
+    let list = oracle(&["list"], "");
+    assert_eq!(list.status.code(), Some(0));
+    let (cases, notes) = (text(&list.stdout), text(&list.stderr));
+    assert!(cases.ends_with('\n'));
+    let answers = oracle(&["answer"], cases);
     assert_eq!(answers.status.code(), Some(1));
-    let count = text(&cases.stdout).lines().count();
-    let lines: Vec<&str> = text(&answers.stdout).lines().collect();
-    assert_eq!(lines.len(), count);
-    let (good, bad) = lines.split_at(count - 7);
-    assert!(good.iter().all(|line| *line != "bad line"));
-    assert!(bad.iter().all(|line| *line == "bad line"));
-    assert_eq!(cases.stdout.len(), 49 * count - 2);
-    let listed = format!("{} lines, ", count - 7);
-    assert!(text(&cases.stderr).starts_with(&listed));
-    assert!(text(&answers.stderr).contains("value: "));
-}
-
-#[test]
-fn a_bad_case_ends_with_1() {
-    let output = oracle(&["operate"], "zz\n");
-    assert_eq!(output.status.code(), Some(1));
-    assert_eq!(text(&output.stdout), "bad line\n");
+    let answers: Vec<&str> = text(&answers.stdout).lines().collect();
+    assert_eq!(answers.len(), cases.lines().count());
+    // Form after form, and each form has answers of its own.
+    let (operations, rest) = answers.split_at(noted(notes, "operate"));
+    let (verdicts, rest) = rest.split_at(noted(notes, "validate"));
+    let (runs, no_cases) = rest.split_at(noted(notes, "run"));
+    assert_eq!(no_cases.len(), noted(notes, "no case"));
+    let all = |answers: &[&str], words: [&str; 2]| {
+        let begins = |line: &&str| words.iter().any(|word| line.starts_with(word));
+        assert_eq!(answers.iter().find(|line| !begins(line)), None);
+    };
+    all(operations, ["value ", "trap "]);
+    all(verdicts, ["admitted", "refused "]);
+    all(runs, ["done ", "refused "]);
+    all(no_cases, ["bad line", "bad line"]);
 }
 
 #[test]
 fn other_arguments_end_with_2() {
-    for arguments in [&[][..], &["list"], &["answer", "more"]] {
+    for arguments in [&[][..], &["operate"], &["answer", "more"]] {
         assert_eq!(oracle(arguments, "").status.code(), Some(2));
     }
 }

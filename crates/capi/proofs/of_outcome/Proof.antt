@@ -20,14 +20,14 @@ of-fault-requires c κs = search needs
 enum-known-o-3 : tie.Need-enum-known-o-3
 enum-known-o-3 c = search needs
 
-refuse-requires : tie.Need-refuse-requires
-refuse-requires c κs = search needs
+answer-of-requires : tie.Need-answer-of-requires
+answer-of-requires c κs = search needs
 
 enum-known-o-4 : tie.Need-enum-known-o-4
 enum-known-o-4 c = search needs
 
-refuse-requires-2 : tie.Need-refuse-requires-2
-refuse-requires-2 c κs = search needs
+answer-of-requires-2 : tie.Need-answer-of-requires-2
+answer-of-requires-2 c κs = search needs
 
 returns : tie.Need-returns
 returns c = rw (c .before .before .o .given .1) (c .of-result .ensures)
@@ -37,11 +37,11 @@ returns-2 c = rw (c .before .before .o2 .given .1) (c .of-fault .ensures ∙ ap 
 
 returns-3 : tie.Need-returns-3
 unfolding withDigest
-returns-3 c = rw (c .before .before .o3 .given .1) (c .refuse .ensures)
+returns-3 c = rw (c .before .before .o3 .given .1) (c .answer-of .ensures)
 
 returns-4 : tie.Need-returns-4
 unfolding withDigest
-returns-4 c = rw (c .before .before .o4 .given .1) (c .refuse2 .ensures)
+returns-4 c = rw (c .before .before .o4 .given .1) (c .answer-of2 .ensures)
 
 pub of-outcome-spec : {M : Type 1} → statement M
 of-outcome-spec =
@@ -52,9 +52,9 @@ of-outcome-spec =
     enum-known-o-2
     of-fault-requires
     enum-known-o-3
-    refuse-requires
+    answer-of-requires
     enum-known-o-4
-    refuse-requires-2
+    answer-of-requires-2
     returns
     returns-2
     returns-3

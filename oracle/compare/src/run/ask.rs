@@ -1,20 +1,13 @@
 //! One question to an engine: an image, limits and so much lent memory; and
 //! what it answers and leaves there.
 
+use oracle::measure::Room;
 use oracle::reading::{self, Limits};
-use oracle::run::describe;
-use oracle::text::hex;
+use oracle::run::{describe, line};
 use oracle::verdict::Answer;
 
 use super::Engine;
 use crate::lent::{LentImage, LentSlice, LentWords};
-
-/// How many words are lent.
-#[derive(Debug, Clone, Copy, PartialEq, Eq)]
-pub struct Room {
-    pub frames: usize,
-    pub registers: usize,
-}
 
 /// What is asked. The salt chooses what lent memory holds before, and where it
 /// begins.
@@ -24,6 +17,26 @@ pub struct Ask<'a> {
     pub limits: Limits,
     pub room: Room,
     pub salt: u64,
+}
+
+/// The same with an image of its own.
+#[derive(Debug, Clone, PartialEq, Eq)]
+pub struct Question {
+    pub image: Vec<u8>,
+    pub limits: Limits,
+    pub room: Room,
+    pub salt: u64,
+}
+
+impl Question {
+    pub fn ask(&self) -> Ask<'_> {
+        Ask {
+            image: &self.image,
+            limits: self.limits,
+            room: self.room,
+            salt: self.salt,
+        }
+    }
 }
 
 /// What an engine finds in its hands.
@@ -44,6 +57,15 @@ pub struct Outcome {
 }
 
 impl Ask<'_> {
+    pub fn question(&self) -> Question {
+        Question {
+            image: self.image.to_vec(),
+            limits: self.limits,
+            room: self.room,
+            salt: self.salt,
+        }
+    }
+
     /// Lent memory as it is before, with an answer of the caller's choice.
     pub fn outcome(&self, answer: Answer) -> Outcome {
         Outcome {
@@ -103,11 +125,7 @@ impl Ask<'_> {
 
     /// The line that asks `oracle answer` about this image and these limits.
     pub fn line(&self) -> String {
-        let Limits {
-            fuel,
-            max_call_depth,
-        } = self.limits;
-        format!("run {fuel} {max_call_depth} {}", hex(self.image))
+        line(self.image, self.limits)
     }
 }
 

@@ -3,21 +3,16 @@
 
 use oracle::generate;
 use oracle::image;
+use oracle::measure::{enough, Measure, Room, Scratch};
 use oracle::random::SplitMix64;
 use oracle::reading::{Limits, RECORD};
 use oracle::run::of_program;
 use oracle::verdict::{self, Answer};
+use semantic_core_exec::CoreProgram;
 use semantic_core_runtime::CoreTrap;
 
-use super::ask::{Ask, Room};
+use super::ask::{Ask, Question};
 use super::laws::Known;
-use super::measure::{enough, Measure, Scratch};
-
-/// One case in so many is an image of the admission's cases: a quarter of them
-/// has faults, half has operands out of place, and some have as many registers
-/// or functions as there can be. At this place in the sequence none is large.
-const ADMISSION_EVERY: u64 = 8;
-const ADMISSION_AT: u64 = 2;
 
 /// Registers times fuel is kept below this, since each Call may clear as many.
 const MOST_WORDS: u64 = 1 << 22;
@@ -48,37 +43,46 @@ impl Case {
     /// The case of this number. Seed and number are all it hangs on: what
     /// stands in the scratch does not matter.
     pub fn new(seed: u64, number: u64, scratch: &mut Scratch) -> Self {
-        let image = image(seed, number);
-        let program = image::read(&image);
-        let functions = program.iter().flat_map(|program| &program.functions);
-        let largest = functions.map(|f| f.regs).max().unwrap_or(0);
-        let rust = |limits: Limits| match &program {
-            Ok(program) => of_program(program, limits.fuel, limits.max_call_depth),
-            Err(fault) => (*fault).into(),
-        };
+        let asked = About::new(generate::image(seed, number));
         // Other numbers than those the program was made from.
         let mut random = SplitMix64::for_case(!seed, number);
-        let settings = (0..2)
-            .map(|_| {
-                let limits = limits(&mut random, largest, rust);
-                let rust = rust(limits);
-                let measure = scratch.measure(&image, limits, used(&rust));
-                let rooms = rooms(&mut random, limits, largest, measure.used);
-                Setting {
-                    limits,
-                    rust,
-                    measure,
-                    rooms,
-                }
-            })
-            .collect();
-        let admitted = verdict::of_image(&image, generate::BOUNDS).number == 0;
-        Self {
-            image,
-            settings,
-            admitted,
-            largest,
+        let settings = (0..2).map(|_| {
+            let limits = limits(&mut random, asked.largest, |limits| asked.rust(limits));
+            let (rust, measure) = asked.measured(limits, scratch);
+            let rooms = rooms(&mut random, limits, asked.largest, measure.used);
+            Setting {
+                limits,
+                rust,
+                measure,
+                rooms,
+            }
+        });
+        let settings = settings.collect();
+        asked.case(settings)
+    }
+
+    /// The case of one question; nothing if its run has no end of its own that
+    /// is near enough. Fuel of any size may be asked for, and what ended in a
+    /// larger program may go on for ever in a smaller one.
+    pub fn of_question(question: &Question, scratch: &mut Scratch) -> Option<Self> {
+        let asked = About::new(question.image.clone());
+        let limits = question.limits;
+        let most = most_fuel(asked.largest);
+        let near = Limits {
+            fuel: most,
+            ..limits
+        };
+        if limits.fuel > most && out_of_fuel(&asked.rust(near)) {
+            return None;
         }
+        let (rust, measure) = asked.measured(limits, scratch);
+        let rooms = vec![question.room];
+        Some(asked.case(vec![Setting {
+            limits,
+            rust,
+            measure,
+            rooms,
+        }]))
     }
 
     /// What is known of a run beside its answer.
@@ -111,6 +115,51 @@ impl Case {
     }
 }
 
+/// An image, and what the Rust makes of it.
+struct About {
+    image: Vec<u8>,
+    program: Result<CoreProgram, image::Fault>,
+    largest: u16,
+}
+
+impl About {
+    fn new(image: Vec<u8>) -> Self {
+        let program = image::read(&image);
+        let functions = program.iter().flat_map(|program| &program.functions);
+        let largest = functions.map(|f| f.regs).max().unwrap_or(0);
+        Self {
+            image,
+            program,
+            largest,
+        }
+    }
+
+    /// The Rust's answer, or the image's fault.
+    fn rust(&self, limits: Limits) -> Answer {
+        match &self.program {
+            Ok(program) => of_program(program, limits.fuel, limits.max_call_depth),
+            Err(fault) => (*fault).into(),
+        }
+    }
+
+    /// How a run ends with enough room, by the Rust and by the reading.
+    fn measured(&self, limits: Limits, scratch: &mut Scratch) -> (Answer, Measure) {
+        let rust = self.rust(limits);
+        let measure = scratch.measure(&self.image, limits, used(&rust));
+        (rust, measure)
+    }
+
+    fn case(self, settings: Vec<Setting>) -> Case {
+        let admitted = verdict::of_image(&self.image, generate::BOUNDS).number == 0;
+        Case {
+            image: self.image,
+            settings,
+            admitted,
+            largest: self.largest,
+        }
+    }
+}
+
 impl Setting {
     /// Whether the run is lent no word that it does not use.
     pub fn is_just_enough(&self, room: Room) -> bool {
@@ -121,14 +170,6 @@ impl Setting {
     pub fn fuel_is_just_enough(&self) -> bool {
         let ended = self.rust.number == 0 && !out_of_fuel(&self.rust);
         ended && used(&self.rust) == self.limits.fuel
-    }
-}
-
-fn image(seed: u64, number: u64) -> Vec<u8> {
-    if number % ADMISSION_EVERY == ADMISSION_AT {
-        generate::Case::new(seed, number).image
-    } else {
-        generate::program(seed, number).image()
     }
 }
 
@@ -146,7 +187,7 @@ fn limits(random: &mut SplitMix64, largest: u16, rust: impl Fn(Limits) -> Answer
     let some = random.between(3, 12) as u16;
     let low = random.one_of([0, 1, 2, some]);
     let max_call_depth = random.one_of([low, some, 64, 64, 65_535]);
-    let most = MOST_WORDS / (1 + u64::from(largest));
+    let most = most_fuel(largest);
     let run = |fuel| {
         rust(Limits {
             fuel,
@@ -157,6 +198,11 @@ fn limits(random: &mut SplitMix64, largest: u16, rust: impl Fn(Limits) -> Answer
         fuel: fuel(random, most, run),
         max_call_depth,
     }
+}
+
+/// As much as a run may have that need not come to its own end.
+fn most_fuel(largest: u16) -> u64 {
+    MOST_WORDS / (1 + u64::from(largest))
 }
 
 /// None, little, plenty, or by what the run uses if it has plenty: just as

@@ -3,12 +3,12 @@
 
 use std::fmt;
 
+use oracle::measure::{Measure, OPCODES};
 use oracle::run::{ending, ENDINGS};
 use oracle::verdict::Answer;
 use semantic_core_runtime::CoreTrap;
 
 use super::laws::{ends_with, Known};
-use super::measure::{Measure, OPCODES};
 
 /// What else must occur.
 const OTHERS: [&str; 10] = [

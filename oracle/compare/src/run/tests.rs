@@ -3,7 +3,9 @@
 
 mod memory;
 mod rounds;
+mod shrinking;
 
+use oracle::digest::digest;
 use oracle::image::{self, Record};
 use oracle::reading::{self, End, Run};
 use oracle::verdict::Answer;
@@ -58,9 +60,15 @@ fn engine(execute: Execute) -> Engine {
     Engine { execute, digest }
 }
 
-fn generated(engine: Engine, count: u64) -> (bool, String) {
+fn generated(engine: Engine, count: u64, complete: bool) -> (bool, String) {
+    let plan = Plan {
+        seed: 1,
+        count,
+        complete,
+    };
     let mut output = Vec::new();
-    let good = compare_generated(engine, 1, count, &mut output).unwrap();
+    let mut progress = Progress::new(io::sink());
+    let good = compare_generated(engine, plan, &mut output, &mut progress).unwrap();
     (good, String::from_utf8(output).unwrap())
 }
 
@@ -81,28 +89,32 @@ fn differs(execute: Execute) {
 
 #[track_caller]
 fn differs_in_generated(execute: Execute) -> String {
-    let (good, text) = generated(engine(execute), CASES);
+    let (good, text) = generated(engine(execute), CASES, false);
     assert!(!good && !text.contains("equal"), "generated: {text}");
+    shrinking::is_small(engine(execute), &text);
     text
 }
 
 #[test]
 fn an_engine_that_is_right_is_equal() {
-    let mut output = Vec::new();
-    let good = run(engine(right), 1, CASES, &mut output).unwrap();
-    let text = String::from_utf8(output).unwrap();
+    let (good, text) = worked(engine(right));
     assert!(good, "{text}");
-    assert!(text.contains(" worked cases: equal\n"));
+    assert!(text.ends_with(" worked cases of runs: equal\n"));
+    let (good, text) = generated(engine(right), CASES, true);
+    assert!(good, "{text}");
     assert!(text.contains("compared 3000 programs in "), "{text}");
     assert!(text.ends_with(" runs: equal\n"), "{text}");
 }
 
+/// What never occurred is said, and is a failure only if that is asked for.
 #[test]
 fn what_never_occurred_is_named() {
-    let (good, text) = generated(engine(right), 0);
-    assert!(!good);
-    assert!(text.contains("never occurred: returned, InvalidPc, "));
-    assert!(text.ends_with(", opcode 55\n"), "{text}");
+    for complete in [false, true] {
+        let (good, text) = generated(engine(right), 0, complete);
+        assert_eq!(good, !complete);
+        assert!(text.contains("never occurred: returned, InvalidPc, "));
+        assert!(text.ends_with(", opcode 55\n"), "{text}");
+    }
 }
 
 /// Wrong where no worked case looks, so that a generated one is reported.
@@ -180,7 +192,7 @@ fn a_wrong_digest_is_found() {
             digest,
         };
         assert!(!worked(engine).0);
-        let (good, text) = generated(engine, CASES);
+        let (good, text) = generated(engine, CASES, false);
         assert!(!good && text.contains(": the digest of "), "{text}");
     }
 }

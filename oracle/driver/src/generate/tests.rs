@@ -6,7 +6,6 @@ use semantic_core_runtime::CoreTrap;
 use super::*;
 use crate::answer::answer;
 use crate::image::read;
-use crate::lines::Bad;
 use crate::verdict::{of_image, Answer, NAMES};
 
 const CASES: u64 = 20_000;
@@ -45,19 +44,16 @@ fn each_line_asks_for_its_case() {
     for number in 0..500 {
         let case = Case::new(1, number);
         let Answer { number, words } = answer_to(&case);
-        match answer(case.line().as_bytes()) {
-            Ok(text) if text == "admitted" => assert_eq!(number, 0),
-            Ok(text) => {
-                let mut fields = text.split(' ').skip(1).map(|f| f.parse().unwrap());
-                assert_eq!(fields.next(), Some(number));
-                assert!(fields.eq(words[..text.split(' ').count() - 2].iter().copied()));
-            }
-            Err(Bad::Image(fault)) => {
-                assert_eq!(number, u64::from(fault.number()));
-                assert_eq!(words[0], u64::from(fault.answer()));
-            }
-            Err(Bad::Line) => panic!("{}", case.line()),
+        let text = answer(case.line().as_bytes()).unwrap();
+        if text == "admitted" {
+            assert_eq!(number, 0);
+            continue;
         }
+        let mut fields = text.split(' ').skip(1).map(|f| f.parse().unwrap());
+        assert_eq!(fields.next(), Some(number));
+        let values: Vec<u64> = fields.collect();
+        assert_eq!(values, words[..values.len()]);
+        assert!(words[values.len()..].iter().all(|word| *word == 0));
     }
 }
 

@@ -184,7 +184,7 @@ fn a_rhs_that_is_always_read_is_found() {
 
 /// An engine that stores another result of this opcode on two fixed-point
 /// numbers, by their raw units.
-fn with_fixed_point(asked: Asked, opcode: u8, other: fn(i64, i64) -> i64) -> u64 {
+pub fn with_fixed_point(asked: Asked, opcode: u8, other: fn(i64, i64) -> i64) -> u64 {
     playing(asked, |run| {
         let operation = about_to(run, opcode);
         let first = run.running().first as usize;

@@ -1,0 +1,5 @@
+pub mod Stores
+pub mod Widths
+pub mod Texts
+pub mod Apart
+pub mod Unique

@@ -1,0 +1,63 @@
+-- The runner's line.
+use Prim.Native.Nat.{ℕ, _≤_}
+use mathlib.Core.Bool.{Bool}
+use mathlib.Core.Path.{_≡_}
+use mathlib.Core.List.{List, [], _∷_, _++_}
+use lib.Dec.{eqb}
+use lib.ListN.{length, getD, drop}
+use lib.Seq.{sets}
+use Rattle.basis.specs.Choice.{pick}
+use Rattle.image.specs.Records.{form1}
+use Rattle.exec.specs.Price.{unit}
+use Rattle.exec.specs.Config.{defaultConfig}
+use Rattle.exec.specs.Execute.{Executed, executed, execution}
+use Rattle.text.specs.Digits.{space, decimal}
+
+-- the words `done` and `refused` in ASCII
+abbrev pub doneWord : List ℕ
+doneWord = 100 ∷ 111 ∷ 110 ∷ 101 ∷ []
+
+abbrev pub refusedWord : List ℕ
+refusedWord = 114 ∷ 101 ∷ 102 ∷ 117 ∷ 115 ∷ 101 ∷ 100 ∷ []
+
+abbrev pub lineFeed : ℕ
+lineFeed = 10
+
+-- numbers in decimal with a space before each, and the line's end
+unfoldable pub fields : List ℕ → List ℕ
+fields [] = lineFeed ∷ []
+fields (n ∷ ns) = (space ∷ decimal n) ++ fields ns
+
+-- `done` and the values of a result; `refused`, the refusal's number and its answer
+unfoldable pub lineOf : List ℕ → List ℕ
+lineOf answer = pick (eqb (getD answer 0 0) 0) (doneWord ++ fields (drop 1 answer)) (refusedWord ++ fields answer)
+
+-- a text was put at the start of bytes that have room for it; it is so long
+abbrev pub Puts : List ℕ → List ℕ → List ℕ → ℕ → Type 0
+Puts text entry exit count = (exit ≡ sets entry 0 text) × (count ≡ length text) × (count ≤ length entry)
+
+-- ---- the reply to an image
+-- refusal 8: the input is longer than what the runner can hold
+abbrev pub tooLong : List ℕ
+tooLong = 8 ∷ 0 ∷ []
+
+-- an image is run by the default configuration; of a longer input nothing is run
+unfoldable pub ran : List ℕ → Bool → List ℕ → List ℕ → Executed
+ran bytes more frames regs =
+    pick more (executed tooLong frames regs)
+    (execution form1 unit bytes (defaultConfig .«max_call_depth») (defaultConfig .fuel) frames regs)
+
+-- the line's length, the bytes that hold it, and the lent words
+pub record Replied : Type 0 where
+  pub count : ℕ
+  pub line : List ℕ
+  pub frames : List ℕ
+  pub regs : List ℕ
+
+abbrev pub replied : ℕ → List ℕ → List ℕ → List ℕ → Replied
+replied count line frames regs = record { count = count; line = line; frames = frames; regs = regs }
+
+unfoldable pub replyTo : List ℕ → Bool → List ℕ → List ℕ → List ℕ → Replied
+replyTo bytes more frames regs line =
+    let e = ran bytes more frames regs in
+    replied (length (lineOf (e .answer))) (lineOf (e .answer) ++ drop (length (lineOf (e .answer))) line) (e .frames) (e .regs)
