@@ -3,3 +3,4 @@ pub mod Numbered
 pub mod Acceptance
 pub mod Reliable
 pub mod Callers
+pub mod Named

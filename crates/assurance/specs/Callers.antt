@@ -1,13 +1,13 @@
 -- What callers can rely on, said of the numbers that an execution answers with: its number, and for 0 status, kind, payload and fuel
 -- used, for 6 and 7 the fuel used. `execute_outcome` answers with these numbers, and over the C boundary they are the number returned
 -- and the words written.
-use Prim.Native.Nat.{ℕ, _≤_}
+use Prim.Native.Nat.{ℕ, _≤_, _<_, _^_}
 use mathlib.Core.Path.{_≡_}
 use mathlib.Core.List.{List, [], _∷_}
 use mathlib.Core.Logic.{_≢_}
 use denote.Ref.{now}
 use lib.Dec.{eqb}
-use lib.ListN.{length, getD}
+use lib.ListN.{length, getD, take}
 use Rattle.basis.specs.Choice.{pick}
 use Rattle.runtime.specs.declared.CoreAdmissionProfile.{CoreAdmissionProfile}
 use Rattle.runtime.specs.declared.CoreTrap.the-variants.{InvalidPc, InvalidRegister, FuelExceeded, InvalidFunction}
@@ -24,6 +24,7 @@ use Rattle.exec.proofs.execute_outcome.Reads as execute_outcome
 use Rattle.exec.proofs.CoreExecutor.execute_outcome.Reads as executor
 use Rattle.capi.proofs.knit_validate.Reads as knit_validate
 use Rattle.capi.proofs.knit_execute.Reads as knit_execute
+use Rattle.capi.proofs.knit_event_id.Reads as knit_event_id
 use Rattle.exec.specs.Begun.{begun}
 use Rattle.course.specs.Course.{Made}
 use Rattle.safety.specs.Safe.{AtLength}
@@ -110,3 +111,12 @@ KnitExecuteSame = (κs : _) (a : _) (n : _) (e : _) (κt : _) (b : _) (m : _) (f
     → knit_execute.Learnt κs a n e → knit_execute.Learnt κt b m f
     → now (b .0) ≡ now (a .0) → b .1 .0 ≡ a .1 .0 → b .1 .1 .0 ≡ a .1 .1 .0
     → NoRoom (n ∷ []) → NoRoom (m ∷ []) → (m ≡ n) × (now (f .1 .1 .1 .1 .1 .0) ≡ now (e .1 .1 .1 .1 .1 .0))
+
+-- ---- event identifiers
+-- two calls that write, with a lesson of 32 bits and a digest of 64: the first 25 bytes are equal exactly when both numbers are
+abbrev pub KnitEventIdApart : Type 0
+KnitEventIdApart = (κs : _) (a : _) (n : _) (e : _) (κt : _) (b : _) (m : _) (f : _)
+    → knit_event_id.Learnt κs a n e → knit_event_id.Learnt κt b m f → n ≡ 0 → m ≡ 0
+    → a .0 < 2 ^ 32 → a .1 .0 < 2 ^ 64 → b .0 < 2 ^ 32 → b .1 .0 < 2 ^ 64
+    → (take 25 (now (e .1 .1 .0)) ≡ take 25 (now (f .1 .1 .0)) → (a .0 ≡ b .0) × (a .1 .0 ≡ b .1 .0))
+    × ((a .0 ≡ b .0) × (a .1 .0 ≡ b .1 .0) → take 25 (now (e .1 .1 .0)) ≡ take 25 (now (f .1 .1 .0)))

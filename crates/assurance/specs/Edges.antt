@@ -1,7 +1,9 @@
 -- The worked cases that document 01 marks P, one row for each, and its own image; both sides of enough room; for each rule of
 -- admission that runs rest on a program that breaks it alone and meets what the rule is there to rule out; and one that breaks none
--- and traps InvalidPc.
+-- and traps InvalidPc; lines of the runner and identifiers as they are read.
 use Prim.Native.Nat.{ℕ, _^_}
+use Prim.Native.String.{String}
+use mathlib.Core.Bool.{Bool, true, false}
 use mathlib.Core.Path.{_≡_}
 use mathlib.Core.List.{List, [], _∷_}
 use lib.IntN.{ℤ, pos, negℤ}
@@ -26,6 +28,9 @@ use Rattle.exec.specs.Price.{unit}
 use Rattle.exec.specs.Config.{defaultConfig}
 use Rattle.exec.specs.Execute.{entered}
 use Rattle.exec.specs.Execute as executing
+use Rattle.text.specs.Ascii.{ascii}
+use Rattle.text.specs.Identifier.{identifier}
+use Rattle.text.specs.Line.{lineOf, ran}
 
 -- ---- registers, by what they hold
 abbrev pub boolFalse : ℕ
@@ -137,6 +142,10 @@ pub data Edge : Type 0 where
   breaking : Program → CoreValidation → Ending → ℕ → Edge
   -- these bytes under the default configuration are answered with these numbers
   execution : List ℕ → List ℕ → Edge
+  -- the runner prints this line for these bytes, with further bytes after them or not
+  printing : List ℕ → Bool → String → Edge
+  -- a lesson and a digest have this identifier
+  naming : ℕ → ℕ → String → Edge
 
 -- room for one frame of up to eight registers, with other words in it
 abbrev pub frameRoom : List ℕ
@@ -161,6 +170,8 @@ Holds (breaking p fault what used) =
     (programFault safeProfile p ≡ verdictNumbers fault) × ((end .what ≡ what) × (end .used ≡ used))
 Holds (execution bytes answer) =
     executing.execution form1 unit bytes (defaultConfig .«max_call_depth») (defaultConfig .fuel) frameRoom registerRoom .answer ≡ answer
+Holds (printing bytes more line) = lineOf (ran bytes more frameRoom registerRoom .answer) ≡ ascii line
+Holds (naming lesson digest id) = identifier lesson digest ≡ ascii id
 
 unfoldable pub edges : List Edge
 edges =
@@ -197,6 +208,11 @@ edges =
     ∷ Edge.breaking headless (InvalidEntry 1) (Trapped InvalidFunction) 0
     ∷ Edge.admission overshooting Admitted
     ∷ Edge.running overshooting 64 9 (Trapped InvalidPc) 2
+    ∷ Edge.printing documentImage false "done 0 3 4294967295 2\n"
+    ∷ Edge.printing documentImage true "refused 8 0\n"
+    ∷ Edge.printing [] false "refused 1 0\n"
+    ∷ Edge.naming 42 0x6ffa4144d88d4a53 "0000002a-6ffa4144d88d4a53"
+    ∷ Edge.naming 0xffffffff 0 "ffffffff-0000000000000000"
     ∷ []
 
 -- every row of a list

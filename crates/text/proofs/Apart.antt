@@ -1,25 +1,15 @@
 -- Identifiers of different events differ. Assumes nothing.
-use Prim.Native.Nat.{ℕ, zero, suc, _+_, _-_, _*_, _/_, _%_, _^_, _≤_, _<_}
-use mathlib.Core.Path.{_≡_, refl, sym, ap, _∙_, subst}
+use Prim.Native.Nat.{ℕ, zero, suc, _+_, _-_, _*_, _/_, _%_, _^_, _<_}
+use mathlib.Core.Path.{_≡_, sym, ap, _∙_, subst}
 use mathlib.Core.List.{List, [], _∷_, _++_}
 use native.Mathlib.Nat.{pow-succ'}
 use native.Mathlib.Omega.{arith}
-use lib.Dec.{ltb, eqb, eqb→eq}
 use lib.ListN.{length, getD, take, drop}
 use lib.Seq.{take-append-seam, drop-append-seam}
-use Rattle.basis.specs.Choice.{pick}
-use Rattle.basis.proofs.Ranges.{passes}
 use Rattle.text.specs.Digits.{digit, digits}
-use Rattle.text.specs.Identifier.{minus, identifier, Apart}
+use Rattle.text.specs.Identifier.{identifier, Apart}
+use Rattle.text.proofs.Glyphs.{value, value-digit}
 use Rattle.text.proofs.Stores.{length-digits}
-
--- what a digit stands for
-value : ℕ → ℕ
-value b = pick (ltb b 97) (b - 48) (b - 87)
-
-value-digit : (d : ℕ) → d < 16 → value (digit d) ≡ d
-unfolding value
-value-digit d h = eqb→eq _ _ (passes (λ k. eqb (value (digit k)) k) 0 16 d tt (omega arith) (omega arith))
 
 -- two lists of one length, each with an element after it
 ends : (xs ys : List ℕ) (a b : ℕ) (t u : List ℕ) → length xs ≡ length ys → xs ++ (a ∷ t) ≡ ys ++ (b ∷ u) → (xs ≡ ys) × (a ∷ t ≡ b ∷ u)
@@ -45,7 +35,7 @@ digits-tell (suc k) n m hn hm e =
 pub identifiers-apart : Apart
 unfolding identifier
 identifiers-apart l d l′ d′ hl hd hl′ hd′ = (
-  λ e. let both = ends (digits 16 8 l) (digits 16 8 l′) minus minus (digits 16 16 d) (digits 16 16 d′) (length-digits 16 8 l ∙ sym (length-digits 16 8 l′)) e in
+  λ e. let both = ends (digits 16 8 l) (digits 16 8 l′) 45 45 (digits 16 16 d) (digits 16 16 d′) (length-digits 16 8 l ∙ sym (length-digits 16 8 l′)) e in
       (digits-tell 8 l l′ hl hl′ (both .0), digits-tell 16 d d′ hd hd′ (ap (drop 1) (both .1))),
   λ e. rw (e .0, e .1),
 )

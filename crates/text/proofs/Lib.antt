@@ -1,3 +1,4 @@
+pub mod Glyphs
 pub mod Stores
 pub mod Widths
 pub mod Texts

@@ -1,7 +1,7 @@
 -- Texts put together piece by piece. Assumes nothing.
-use Prim.Native.Nat.{ℕ, zero, suc, _+_, _-_, _≤_, _<_}
+use Prim.Native.Nat.{ℕ, suc, _+_, _-_, _≤_, _<_}
 use mathlib.Core.Bool.{Bool, true, false}
-use mathlib.Core.Path.{_≡_, refl, sym, ap, _∙_, subst}
+use mathlib.Core.Path.{_≡_, refl, sym, ap, _∙_}
 use mathlib.Core.List.{List, [], _∷_, _++_, append-assoc}
 use native.Mathlib.Nat.{zero-add}
 use native.Mathlib.Omega.{arith}
@@ -14,9 +14,10 @@ use Rattle.exec.specs.Price.{unit}
 use Rattle.exec.specs.declared.config.CoreConfig.{CoreConfig}
 use Rattle.exec.specs.Config.{defaultConfig}
 use Rattle.exec.specs.Execute.{Executed, executed, execution}
-use Rattle.text.specs.Digits.{space, digits, widthOf, decimal}
+use Rattle.text.specs.Ascii.{ascii}
+use Rattle.text.specs.Digits.{digits, widthOf, decimal}
 use Rattle.text.specs.Identifier.{identifier, identified, identification}
-use Rattle.text.specs.Line.{doneWord, refusedWord, lineFeed, fields, lineOf, Puts, ran, replied, replyTo}
+use Rattle.text.specs.Line.{fields, lineOf, Puts, ran, replied, replyTo}
 use Rattle.text.proofs.Stores.{length-digits}
 
 pub length-decimal : (n : ℕ) → length (decimal n) ≡ widthOf n
@@ -24,8 +25,8 @@ unfolding decimal
 length-decimal n = length-digits 10 (widthOf n) n
 
 -- a space, and then as many digits as the number has
-pub field-put : (l m o : List ℕ) (at n w : ℕ) → w ≡ widthOf n → m ≡ sets l at (space ∷ []) → o ≡ sets m (at + 1) (digits 10 w n)
-    → o ≡ sets l at (space ∷ decimal n)
+pub field-put : (l m o : List ℕ) (at n w : ℕ) → w ≡ widthOf n → m ≡ sets l at (ascii " ") → o ≡ sets m (at + 1) (digits 10 w n)
+    → o ≡ sets l at (ascii " " ++ decimal n)
 unfolding decimal
 field-put l m o at n w e p q = let next : at + 1 ≡ suc at = omega arith in rw (q, p, e, next)
 
@@ -43,17 +44,22 @@ puts-more text more l m o at end p e h fits = (
   fits,
 )
 
+pub length-identifier : (lesson digest : ℕ) → length (identifier lesson digest) ≡ 25
+unfolding identifier
+length-identifier lesson digest =
+    length-append (digits 16 8 lesson) (ascii "-" ++ digits 16 16 digest) ∙ rw (length-digits 16 8 lesson, length-digits 16 16 digest)
+
 pub id-put : (l m o q : List ℕ) (lesson digest : ℕ) → 25 ≤ length l
-    → m ≡ sets l 0 (digits 16 8 lesson) → o ≡ sets m 8 (45 ∷ []) → q ≡ sets o 9 (digits 16 16 digest)
+    → m ≡ sets l 0 (digits 16 8 lesson) → o ≡ sets m 8 (ascii "-") → q ≡ sets o 9 (digits 16 16 digest)
     → identified (0 ∷ 25 ∷ []) q ≡ identification lesson digest l
 unfolding identifier identification
 id-put l m o q lesson digest fits a b c =
     let one : Puts (digits 16 8 lesson) l m 8 = (a, sym (length-digits 16 8 lesson), omega arith) in
-    let two : Puts (digits 16 8 lesson ++ (45 ∷ [])) l o 9 = puts-more (digits 16 8 lesson) (45 ∷ []) l m o 8 9 one b refl (omega arith) in
-    let three : Puts ((digits 16 8 lesson ++ (45 ∷ [])) ++ digits 16 16 digest) l q 25 =
-    puts-more (digits 16 8 lesson ++ (45 ∷ [])) (digits 16 16 digest) l o q 9 25 two c (rw (length-digits 16 16 digest)) fits in
-    let whole : (digits 16 8 lesson ++ (45 ∷ [])) ++ digits 16 16 digest ≡ identifier lesson digest = append-assoc (digits 16 8 lesson) (45 ∷ []) (digits 16 16 digest) in
-    let long : length (identifier lesson digest) ≡ 25 = ap length (sym whole) ∙ sym (three .1) in
+    let two : Puts (digits 16 8 lesson ++ (ascii "-")) l o 9 = puts-more (digits 16 8 lesson) (ascii "-") l m o 8 9 one b refl (omega arith) in
+    let three : Puts ((digits 16 8 lesson ++ (ascii "-")) ++ digits 16 16 digest) l q 25 =
+    puts-more (digits 16 8 lesson ++ (ascii "-")) (digits 16 16 digest) l o q 9 25 two c (rw (length-digits 16 16 digest)) fits in
+    let whole : (digits 16 8 lesson ++ (ascii "-")) ++ digits 16 16 digest ≡ identifier lesson digest = append-assoc (digits 16 8 lesson) (ascii "-") (digits 16 16 digest) in
+    let long = length-identifier lesson digest in
     rw (le-ltb (length l) 25 fits) (ap (identified (0 ∷ 25 ∷ [])) (three .0 ∙ ap (sets l 0) whole ∙ puts-front (identifier lesson digest) l (rw long fits) ∙ ap (λ (k : ℕ). identifier lesson digest ++ drop k l) long))
 
 pub id-none : (l : List ℕ) (lesson digest : ℕ) → length l < 25 → identified (9 ∷ 0 ∷ []) l ≡ identification lesson digest l
@@ -67,29 +73,29 @@ pub record Owes (line l m : List ℕ) (at : ℕ) (ns : List ℕ) : Type 0 where
   pub whole : text ++ fields ns ≡ line
   pub put : Puts text l m at
 
-pub owes-done : (l m ns : List ℕ) → m ≡ sets l 0 doneWord → 96 ≤ length l → Owes (lineOf (0 ∷ ns)) l m 4 ns
+pub owes-done : (l m ns : List ℕ) → m ≡ sets l 0 (ascii "done") → 96 ≤ length l → Owes (lineOf (0 ∷ ns)) l m 4 ns
 unfolding lineOf
-owes-done l m ns h fits = record { text = doneWord; whole = refl; put = (h, refl, omega arith) }
+owes-done l m ns h fits = record { text = ascii "done"; whole = refl; put = (h, refl, omega arith) }
 
-pub owes-refused : (l m : List ℕ) (number answer : ℕ) → 1 ≤ number → m ≡ sets l 0 refusedWord → 96 ≤ length l
+pub owes-refused : (l m : List ℕ) (number answer : ℕ) → 1 ≤ number → m ≡ sets l 0 (ascii "refused") → 96 ≤ length l
     → Owes (lineOf (number ∷ answer ∷ [])) l m 7 (number ∷ answer ∷ [])
 unfolding lineOf
 owes-refused l m number answer some h fits =
-    record { text = refusedWord; whole = rw (ne-eqb number 0 (λ e. omega arith)); put = (h, refl, omega arith) }
+    record { text = ascii "refused"; whole = rw (ne-eqb number 0 (λ e. omega arith)); put = (h, refl, omega arith) }
 
 pub owes-field : (line l m o : List ℕ) (at end n : ℕ) (ns : List ℕ) → Owes line l m at (n ∷ ns)
-    → o ≡ sets m at (space ∷ decimal n) → end ≡ at + length (space ∷ decimal n) → end ≤ length l → Owes line l o end ns
+    → o ≡ sets m at (ascii " " ++ decimal n) → end ≡ at + length (ascii " " ++ decimal n) → end ≤ length l → Owes line l o end ns
 unfolding fields
 owes-field line l m o at end n ns owed e h fits =
     record {
-      text = owed .text ++ (space ∷ decimal n);
-      whole = append-assoc (owed .text) (space ∷ decimal n) (fields ns) ∙ owed .whole;
-      put = puts-more (owed .text) (space ∷ decimal n) l m o at end (owed .put) e h fits;
+      text = owed .text ++ (ascii " " ++ decimal n);
+      whole = append-assoc (owed .text) (ascii " " ++ decimal n) (fields ns) ∙ owed .whole;
+      put = puts-more (owed .text) (ascii " " ++ decimal n) l m o at end (owed .put) e h fits;
     }
 
-pub owes-end : (line l m o : List ℕ) (at : ℕ) → Owes line l m at [] → o ≡ sets m at (lineFeed ∷ []) → at + 1 ≤ length l → Puts line l o (at + 1)
+pub owes-end : (line l m o : List ℕ) (at : ℕ) → Owes line l m at [] → o ≡ sets m at (ascii "\n") → at + 1 ≤ length l → Puts line l o (at + 1)
 unfolding fields
-owes-end line l m o at owed e fits = rw (← owed .whole) (puts-more (owed .text) (lineFeed ∷ []) l m o at (at + 1) (owed .put) e refl fits)
+owes-end line l m o at owed e fits = rw (← owed .whole) (puts-more (owed .text) (ascii "\n") l m o at (at + 1) (owed .put) e refl fits)
 
 -- ---- the reply
 reply-is : (e : Executed) (bytes : List ℕ) (more : Bool) (frames regs l o : List ℕ) (count : ℕ) → ran bytes more frames regs ≡ e

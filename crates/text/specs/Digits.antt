@@ -1,15 +1,13 @@
 -- Numbers as ASCII text.
-use Prim.Native.Nat.{ℕ, zero, suc, _+_, _/_, _%_}
+use Prim.Native.Nat.{ℕ, zero, suc, _/_, _%_}
 use mathlib.Core.List.{List, [], _∷_, _++_}
 use lib.Dec.{ltb}
+use lib.ListN.{getD}
 use Rattle.basis.specs.Choice.{pick}
+use Rattle.text.specs.Ascii.{ascii}
 
-abbrev pub space : ℕ
-space = 32
-
--- `0` to `9`, then `a` to `f`
 abbrev pub digit : ℕ → ℕ
-digit d = pick (ltb d 10) (48 + d) (87 + d)
+digit d = getD (ascii "0123456789abcdef") d 0
 
 -- the last k digits of n in a base, the greatest first
 unfoldable pub digits : ℕ → ℕ → ℕ → List ℕ

@@ -5,15 +5,13 @@ use mathlib.Core.List.{List, [], _∷_, _++_}
 use lib.Dec.{ltb}
 use lib.ListN.{length, drop}
 use Rattle.basis.specs.Choice.{pick}
+use Rattle.text.specs.Ascii.{ascii}
 use Rattle.text.specs.Digits.{digits}
 use Rattle.text.specs.declared.event.EventId.{EventId}
 use Rattle.text.specs.declared.event.EventId.the-variants.{Written, IdRoom}
 
-abbrev pub minus : ℕ
-minus = 45
-
 unfoldable pub identifier : ℕ → ℕ → List ℕ
-identifier lesson digest = digits 16 8 lesson ++ (minus ∷ digits 16 16 digest)
+identifier lesson digest = digits 16 8 lesson ++ (ascii "-" ++ digits 16 16 digest)
 
 -- 0 and how many bytes were written, or the paper's number of the refusal and its answer
 abbrev pub idNumbers : EventId → List ℕ

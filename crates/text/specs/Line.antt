@@ -11,26 +11,17 @@ use Rattle.image.specs.Records.{form1}
 use Rattle.exec.specs.Price.{unit}
 use Rattle.exec.specs.Config.{defaultConfig}
 use Rattle.exec.specs.Execute.{Executed, executed, execution}
-use Rattle.text.specs.Digits.{space, decimal}
-
--- the words `done` and `refused` in ASCII
-abbrev pub doneWord : List ℕ
-doneWord = 100 ∷ 111 ∷ 110 ∷ 101 ∷ []
-
-abbrev pub refusedWord : List ℕ
-refusedWord = 114 ∷ 101 ∷ 102 ∷ 117 ∷ 115 ∷ 101 ∷ 100 ∷ []
-
-abbrev pub lineFeed : ℕ
-lineFeed = 10
+use Rattle.text.specs.Ascii.{ascii}
+use Rattle.text.specs.Digits.{decimal}
 
 -- numbers in decimal with a space before each, and the line's end
 unfoldable pub fields : List ℕ → List ℕ
-fields [] = lineFeed ∷ []
-fields (n ∷ ns) = (space ∷ decimal n) ++ fields ns
+fields [] = ascii "\n"
+fields (n ∷ ns) = (ascii " " ++ decimal n) ++ fields ns
 
 -- `done` and the values of a result; `refused`, the refusal's number and its answer
 unfoldable pub lineOf : List ℕ → List ℕ
-lineOf answer = pick (eqb (getD answer 0 0) 0) (doneWord ++ fields (drop 1 answer)) (refusedWord ++ fields answer)
+lineOf answer = pick (eqb (getD answer 0 0) 0) (ascii "done" ++ fields (drop 1 answer)) (ascii "refused" ++ fields answer)
 
 -- a text was put at the start of bytes that have room for it; it is so long
 abbrev pub Puts : List ℕ → List ℕ → List ℕ → ℕ → Type 0

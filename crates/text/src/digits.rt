@@ -1,10 +1,11 @@
 // Numbers and words as ASCII text, put into a slice at a place where there is room for them.
 ghost use mathlib.Core.Path.{_≡_};
-ghost use mathlib.Core.List.{_∷_};
+ghost use mathlib.Core.List.{_++_};
 ghost use Prim.Native.Nat.{_+_, _≤_, _<_};
 ghost use lib.ListN.{length};
 ghost use lib.Seq.{sets};
-ghost use Rattle.text.specs.Digits.{digit, digits, widthOf, decimal, space};
+ghost use Rattle.text.specs.Ascii.{ascii};
+ghost use Rattle.text.specs.Digits.{digit, digits, widthOf, decimal};
 
 fn glyph(d: u64) -> u8
     requires { ⌜ d < 16 ⌝ }
@@ -56,8 +57,8 @@ pub fn put_word(word: &[u8], at: usize, out: &mut [u8])
 // A space and a number; answers where it ends.
 pub fn put_field(n: u64, at: usize, out: &mut [u8]) -> usize
     requires { ⌜ at + 21 ≤ length (now out) ⌝ }
-    ensures { λ r. ⌜ now (out .exit) ≡ sets (now (out .entry)) at (space ∷ decimal n) ⌝ }
-    ensures { λ r. ⌜ r ≡ at + length (space ∷ decimal n) ⌝ }
+    ensures { λ r. ⌜ now (out .exit) ≡ sets (now (out .entry)) at (ascii " " ++ decimal n) ⌝ }
+    ensures { λ r. ⌜ r ≡ at + length (ascii " " ++ decimal n) ⌝ }
     ensures { λ r. ⌜ r ≤ at + 21 ⌝ }
 {
     put_word(b" ", at, out);

@@ -1,4 +1,4 @@
-use borrow.Author.Tests.{lt-ltb, le-ltb}
+use Rattle.text.proofs.Glyphs.{digit-low, digit-high}
 use borrow.Author.Needs.{needs}
 use Rattle.text.proofs.digits.glyph.Statement.{statement}
 use Rattle.text.proofs.digits.glyph.Tie as tie
@@ -16,10 +16,10 @@ add-result-2 : tie.Need-add-result-2
 add-result-2 c = search needs
 
 returns : tie.Need-returns
-returns c = rw (lt-ltb _ _ (c .if1 .taken))
+returns c = digit-low (c .before .args .d) (c .if1 .taken)
 
 returns-2 : tie.Need-returns-2
-returns-2 c = rw (le-ltb _ _ (c .if1 .left))
+returns-2 c = digit-high (c .before .args .d) (c .if1 .left) (c .before .pre)
 
 pub glyph-spec : {M : Type 1} → statement M
 glyph-spec =
