@@ -4,3 +4,4 @@ pub mod Acceptance
 pub mod Reliable
 pub mod Callers
 pub mod Named
+pub mod Runner

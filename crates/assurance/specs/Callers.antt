@@ -2,6 +2,7 @@
 -- used, for 6 and 7 the fuel used. `execute_outcome` answers with these numbers, and over the C boundary they are the number returned
 -- and the words written.
 use Prim.Native.Nat.{ℕ, _≤_, _<_, _^_}
+use mathlib.Core.Bool.{Bool}
 use mathlib.Core.Path.{_≡_}
 use mathlib.Core.List.{List, [], _∷_}
 use mathlib.Core.Logic.{_≢_}
@@ -22,6 +23,7 @@ use Rattle.exec.specs.Price.{unit}
 use Rattle.exec.specs.Execute.{outcomeNumbers, entryState}
 use Rattle.exec.proofs.execute_outcome.Reads as execute_outcome
 use Rattle.exec.proofs.CoreExecutor.execute_outcome.Reads as executor
+use Rattle.text.specs.Line.{ran}
 use Rattle.capi.proofs.knit_validate.Reads as knit_validate
 use Rattle.capi.proofs.knit_execute.Reads as knit_execute
 use Rattle.capi.proofs.knit_event_id.Reads as knit_event_id
@@ -120,3 +122,8 @@ KnitEventIdApart = (κs : _) (a : _) (n : _) (e : _) (κt : _) (b : _) (m : _) (
     → a .0 < 2 ^ 32 → a .1 .0 < 2 ^ 64 → b .0 < 2 ^ 32 → b .1 .0 < 2 ^ 64
     → (take 25 (now (e .1 .1 .0)) ≡ take 25 (now (f .1 .1 .0)) → (a .0 ≡ b .0) × (a .1 .0 ≡ b .1 .0))
     × ((a .0 ≡ b .0) × (a .1 .0 ≡ b .1 .0) → take 25 (now (e .1 .1 .0)) ≡ take 25 (now (f .1 .1 .0)))
+
+-- ---- the runner
+-- with 64 records, as many as the default configuration's depth limit, it never answers 6
+abbrev pub RunnerHasRecords : Type 0
+RunnerHasRecords = (bytes : List ℕ) (more : Bool) (frames regs : List ℕ) → 256 ≤ length frames → numberIn (ran bytes more frames regs .answer) ≢ 6

@@ -3,6 +3,8 @@ use Prim.Native.Nat.{ℕ, _*_, _≤_, max}
 use mathlib.Core.List.{List, [], _∷_}
 use lib.ListN.{length}
 use Rattle.image.specs.Program.{Function, Program}
+use Rattle.exec.specs.declared.Ending.{Ending}
+use Rattle.exec.specs.declared.Ending.the-variants.{Returned, Trapped, FrameRoom, RegisterRoom}
 use Rattle.exec.specs.Lent.{frameWords}
 
 -- a record for each frame that the depth limit allows; the entry frame is there at any limit
@@ -22,3 +24,11 @@ words p most = records most * largest (p .functions)
 pub record Enough (p : Program) (most : ℕ) (fr rg : List ℕ) : Type 0 where
   pub frames : frameWords * records most ≤ length fr
   pub regs : words p most ≤ length rg
+
+-- ---- records alone
+-- a frame was refused because no record was left for it
+abbrev pub WantsRecord : Ending → Type 0
+WantsRecord (Returned word) = ⊥
+WantsRecord (Trapped t) = ⊥
+WantsRecord FrameRoom = Unit {0}
+WantsRecord RegisterRoom = ⊥
