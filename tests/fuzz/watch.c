@@ -63,7 +63,7 @@ static void crashed(int signal_number)
     _exit(in_call ? 1 : 2);
 }
 
-/* Ticks are counted instead of time: a process that was stopped for a while has had one tick, not many. */
+/* Ticks are of the processor's time and not of a clock, so that a machine that is busy with other work is no finding. */
 static void ticked(int signal_number)
 {
     static uint64_t seen;
@@ -77,7 +77,7 @@ static void ticked(int signal_number)
         put_text(current_function);
         put_text(": has not returned in ");
         put_decimal(STUCK_SECONDS);
-        put_text(" seconds");
+        put_text(" seconds of the processor");
         put_where();
         _exit(1);
     }
@@ -116,8 +116,8 @@ void start_watch(uint64_t chosen, void (*tell_case)(FILE *to))
         give_up("sigaltstack");
     for (i = 0; i < sizeof crashes / sizeof crashes[0]; i++)
         handle(crashes[i], crashed, SA_ONSTACK);
-    handle(SIGALRM, ticked, SA_ONSTACK | SA_RESTART);
-    if (setitimer(ITIMER_REAL, &each_second, NULL) != 0)
+    handle(SIGPROF, ticked, SA_ONSTACK | SA_RESTART);
+    if (setitimer(ITIMER_PROF, &each_second, NULL) != 0)
         give_up("setitimer");
 }
 
