@@ -91,14 +91,14 @@ fn decimal(text: &[u8], most: u64) -> Field
     Field::Number(n)
 }
 
-// Where the field that begins at a place ends: at a space, or with the line.
-fn field_end(line: &[u8], at: usize) -> usize
-    requires { ⌜ at ≤ length (now line) ⌝ }
+// Where the first such byte from a place on is, or the text's length where none is.
+pub fn find(text: &[u8], at: usize, byte: u8) -> usize
+    requires { ⌜ at ≤ length (now text) ⌝ }
     ensures { λ r. ⌜ at ≤ r ⌝ }
-    ensures { λ r. ⌜ r ≤ length (now (line .entry)) ⌝ }
+    ensures { λ r. ⌜ r ≤ length (now (text .entry)) ⌝ }
 {
     let mut i = at;
-    while i < line.len() && line[i] != b' ' {
+    while i < text.len() && text[i] != byte {
         i += 1;
     }
     i
@@ -117,7 +117,7 @@ pub fn next_number(line: &[u8], at: usize, most: u64) -> Next
     if line.len() < at {
         return bad;
     }
-    let end = field_end(line, at);
+    let end = find(line, at, b' ');
     if end == line.len() {
         return bad;
     }

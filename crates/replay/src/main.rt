@@ -59,18 +59,6 @@ fn answer_line(line: &[u8]) {
     }
 }
 
-// Where the first line feed is, or `held` where none is.
-fn line_end(buf: &[u8], held: usize) -> usize
-    requires { ⌜ held ≤ length (now buf) ⌝ }
-    ensures { λ r. ⌜ r ≤ held ⌝ }
-{
-    let mut i = 0;
-    while i < held && buf[i] != b'\n' {
-        i += 1;
-    }
-    i
-}
-
 // Moves the bytes from a place on to the start, and answers how many these are.
 fn drop_front(buf: &mut [u8], from: usize, held: usize) -> usize
     requires { ⌜ from ≤ held ⌝ }
@@ -152,11 +140,12 @@ fn turn(buf: &mut [u8], s: Stream) -> Stream
     requires { ⌜ s .held ≤ length (now buf) ⌝ }
     ensures { λ r. ⌜ r .held ≤ length (now (buf .exit)) ⌝ }
 {
-    let end = line_end(buf, s.held);
-    if end < s.held {
+    let held = s.held;
+    let end = fields::find(&buf[..held], 0, b'\n');
+    if end < held {
         return take_line(buf, end, s);
     }
-    if s.held == buf.len() {
+    if held == buf.len() {
         return give_up(s);
     }
     read_on(buf, s)

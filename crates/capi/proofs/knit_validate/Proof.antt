@@ -2,15 +2,14 @@ use mathlib.Core.Path.{_∙_, ap}
 use Rattle.capi.specs.Boundary.{numberOf}
 use Rattle.capi.specs.declared.Answer.{Answer}
 use Rattle.capi.proofs.Words.{five, five-words}
-use borrow.Author.Needs.{needs}
 use Rattle.capi.proofs.knit_validate.Statement.{statement}
 use Rattle.capi.proofs.knit_validate.Tie as tie
 
 validate-program-requires : tie.Need-validate-program-requires
-validate-program-requires c κs = search needs
+validate-program-requires c κs = tt
 
 of-verdict-requires : tie.Need-of-verdict-requires
-of-verdict-requires c κs = search needs
+of-verdict-requires c κs = tt
 
 returns : tie.Need-returns
 unfolding numberOf

@@ -6,13 +6,13 @@ enum-told : tie.Need-enum-told
 enum-told c = search needs
 
 answer-of-requires : tie.Need-answer-of-requires
-answer-of-requires c κs = search needs
+answer-of-requires c κs = tt
 
 enum-told-2 : tie.Need-enum-told-2
 enum-told-2 c = search needs
 
 answer-of-requires-2 : tie.Need-answer-of-requires-2
-answer-of-requires-2 c κs = search needs
+answer-of-requires-2 c κs = tt
 
 returns : tie.Need-returns
 returns c = rw (c .before .enum-told .given .1) (c .answer-of .ensures)

@@ -6,31 +6,31 @@ enum-told : tie.Need-enum-told
 enum-told c = search needs
 
 answer-of-requires : tie.Need-answer-of-requires
-answer-of-requires c κs = search needs
+answer-of-requires c κs = tt
 
 enum-told-2 : tie.Need-enum-told-2
 enum-told-2 c = search needs
 
 answer-of-requires-2 : tie.Need-answer-of-requires-2
-answer-of-requires-2 c κs = search needs
+answer-of-requires-2 c κs = tt
 
 enum-told-3 : tie.Need-enum-told-3
 enum-told-3 c = search needs
 
 answer-of-requires-3 : tie.Need-answer-of-requires-3
-answer-of-requires-3 c κs = search needs
+answer-of-requires-3 c κs = tt
 
 enum-known-fault : tie.Need-enum-known-fault
 enum-known-fault c = search needs
 
 answer-of-requires-4 : tie.Need-answer-of-requires-4
-answer-of-requires-4 c κs = search needs
+answer-of-requires-4 c κs = tt
 
 enum-known-fault-2 : tie.Need-enum-known-fault-2
 enum-known-fault-2 c = search needs
 
 answer-of-requires-5 : tie.Need-answer-of-requires-5
-answer-of-requires-5 c κs = search needs
+answer-of-requires-5 c κs = tt
 
 returns : tie.Need-returns
 returns c = rw (c .before .enum-told .given .1) (c .answer-of .ensures)

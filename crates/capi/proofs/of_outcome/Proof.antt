@@ -9,25 +9,25 @@ enum-known-o : tie.Need-enum-known-o
 enum-known-o c = search needs
 
 of-result-requires : tie.Need-of-result-requires
-of-result-requires c κs = search needs
+of-result-requires c κs = tt
 
 enum-known-o-2 : tie.Need-enum-known-o-2
 enum-known-o-2 c = search needs
 
 of-fault-requires : tie.Need-of-fault-requires
-of-fault-requires c κs = search needs
+of-fault-requires c κs = tt
 
 enum-known-o-3 : tie.Need-enum-known-o-3
 enum-known-o-3 c = search needs
 
 answer-of-requires : tie.Need-answer-of-requires
-answer-of-requires c κs = search needs
+answer-of-requires c κs = tt
 
 enum-known-o-4 : tie.Need-enum-known-o-4
 enum-known-o-4 c = search needs
 
 answer-of-requires-2 : tie.Need-answer-of-requires-2
-answer-of-requires-2 c κs = search needs
+answer-of-requires-2 c κs = tt
 
 returns : tie.Need-returns
 returns c = rw (c .before .before .o .given .1) (c .of-result .ensures)

@@ -4,22 +4,22 @@ use Rattle.capi.proofs.of_result.Statement.{statement}
 use Rattle.capi.proofs.of_result.Tie as tie
 
 number-requires : tie.Need-number-requires
-number-requires c κs = search needs
+number-requires c κs = tt
 
 kind-requires : tie.Need-kind-requires
-kind-requires c κs = search needs
+kind-requires c κs = tt
 
 cast-second : tie.Need-cast-second
 cast-second c = search needs
 
 payload-requires : tie.Need-payload-requires
-payload-requires c κs = search needs
+payload-requires c κs = tt
 
 cast-third : tie.Need-cast-third
 cast-third c = search needs
 
 digest-words-requires : tie.Need-digest-words-requires
-digest-words-requires c κs = search needs
+digest-words-requires c κs = tt
 
 returns : tie.Need-returns
 unfolding withDigest

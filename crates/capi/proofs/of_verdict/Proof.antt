@@ -6,13 +6,13 @@ enum-told : tie.Need-enum-told
 enum-told c = search needs
 
 answer-of-requires : tie.Need-answer-of-requires
-answer-of-requires c κs = search needs
+answer-of-requires c κs = tt
 
 enum-known-v : tie.Need-enum-known-v
 enum-known-v c = search needs
 
 of-fault-requires : tie.Need-of-fault-requires
-of-fault-requires c κs = search needs
+of-fault-requires c κs = tt
 
 enum-known-v-2 : tie.Need-enum-known-v-2
 enum-known-v-2 c = search needs
@@ -21,7 +21,7 @@ cast-answer-of : tie.Need-cast-answer-of
 cast-answer-of c = search needs
 
 answer-of-requires-2 : tie.Need-answer-of-requires-2
-answer-of-requires-2 c κs = search needs
+answer-of-requires-2 c κs = tt
 
 enum-known-v-3 : tie.Need-enum-known-v-3
 enum-known-v-3 c = search needs
@@ -30,67 +30,67 @@ cast-answer-of-2 : tie.Need-cast-answer-of-2
 cast-answer-of-2 c = search needs
 
 answer-of-requires-3 : tie.Need-answer-of-requires-3
-answer-of-requires-3 c κs = search needs
+answer-of-requires-3 c κs = tt
 
 enum-told-2 : tie.Need-enum-told-2
 enum-told-2 c = search needs
 
 answer-of-requires-4 : tie.Need-answer-of-requires-4
-answer-of-requires-4 c κs = search needs
+answer-of-requires-4 c κs = tt
 
 enum-known-v-4 : tie.Need-enum-known-v-4
 enum-known-v-4 c = search needs
 
 answer-of-requires-5 : tie.Need-answer-of-requires-5
-answer-of-requires-5 c κs = search needs
+answer-of-requires-5 c κs = tt
 
 enum-known-v-5 : tie.Need-enum-known-v-5
 enum-known-v-5 c = search needs
 
 answer-of-requires-6 : tie.Need-answer-of-requires-6
-answer-of-requires-6 c κs = search needs
+answer-of-requires-6 c κs = tt
 
 enum-known-v-6 : tie.Need-enum-known-v-6
 enum-known-v-6 c = search needs
 
 answer-of-requires-7 : tie.Need-answer-of-requires-7
-answer-of-requires-7 c κs = search needs
+answer-of-requires-7 c κs = tt
 
 enum-known-v-7 : tie.Need-enum-known-v-7
 enum-known-v-7 c = search needs
 
 answer-of-requires-8 : tie.Need-answer-of-requires-8
-answer-of-requires-8 c κs = search needs
+answer-of-requires-8 c κs = tt
 
 enum-known-v-8 : tie.Need-enum-known-v-8
 enum-known-v-8 c = search needs
 
 answer-of-requires-9 : tie.Need-answer-of-requires-9
-answer-of-requires-9 c κs = search needs
+answer-of-requires-9 c κs = tt
 
 enum-known-v-9 : tie.Need-enum-known-v-9
 enum-known-v-9 c = search needs
 
 answer-of-requires-10 : tie.Need-answer-of-requires-10
-answer-of-requires-10 c κs = search needs
+answer-of-requires-10 c κs = tt
 
 enum-known-v-10 : tie.Need-enum-known-v-10
 enum-known-v-10 c = search needs
 
 answer-of-requires-11 : tie.Need-answer-of-requires-11
-answer-of-requires-11 c κs = search needs
+answer-of-requires-11 c κs = tt
 
 enum-known-v-11 : tie.Need-enum-known-v-11
 enum-known-v-11 c = search needs
 
 answer-of-requires-12 : tie.Need-answer-of-requires-12
-answer-of-requires-12 c κs = search needs
+answer-of-requires-12 c κs = tt
 
 enum-known-v-12 : tie.Need-enum-known-v-12
 enum-known-v-12 c = search needs
 
 answer-of-requires-13 : tie.Need-answer-of-requires-13
-answer-of-requires-13 c κs = search needs
+answer-of-requires-13 c κs = tt
 
 returns : tie.Need-returns
 returns c = rw (c .before .enum-told .given .1) (c .answer-of .ensures)

@@ -17,7 +17,7 @@ part-read-part-end : tie.Need-part-read-part-end
 part-read-part-end c = search needs
 
 read-part-requires : tie.Need-read-part-requires
-read-part-requires c κs = search needs
+read-part-requires c κs = tt
 
 add-t10 : tie.Need-add-t10
 add-t10 c = search needs
@@ -35,7 +35,7 @@ slice-aggregate-answer-line : tie.Need-slice-aggregate-answer-line
 slice-aggregate-answer-line c = sym (length-take-le _ _ (subst (λ (k : ℕ). c .before .before .before .before .before .before .before .before .before .args .s .held ≤ k) (sym (same-len-mid {X = ℕ} (c .before .before .before .before .before .before .before .before .before .args .s .held) (length (c .before .before .before .before .before .before .before .before .before .args .buf .now) - c .before .before .before .before .before .before .before .before .before .args .s .held) (c .before .before .before .before .before .before .before .before .before .args .buf .now) (c .before .before .before .before .before .before .read-part .last .0) (c .before .before .before .before .before .before .read-part .kept .0))) (c .before .before .before .before .before .before .before .before .before .pre)))
 
 answer-line-requires : tie.Need-answer-line-requires
-answer-line-requires c κs = search needs
+answer-line-requires c κs = tt
 
 same-length-2 : tie.Need-same-length-2
 same-length-2 c = search needs

@@ -31,7 +31,7 @@ part-read-part-end : tie.Need-part-read-part-end Inv-loop μ-loop
 part-read-part-end c = search needs
 
 read-part-requires : tie.Need-read-part-requires Inv-loop μ-loop
-read-part-requires c κs = search needs
+read-part-requires c κs = tt
 
 enum-known-n : tie.Need-enum-known-n Inv-loop μ-loop
 enum-known-n c = search needs

@@ -11,13 +11,13 @@ slice-aggregate-read-image-2 : tie.Need-slice-aggregate-read-image-2
 slice-aggregate-read-image-2 c = search needs
 
 read-image-requires : tie.Need-read-image-requires
-read-image-requires c κs = search needs
+read-image-requires c κs = tt
 
 slice-aggregate-fail : tie.Need-slice-aggregate-fail
 slice-aggregate-fail c = search needs
 
 fail-requires : tie.Need-fail-requires
-fail-requires c κs = search needs
+fail-requires c κs = tt
 
 returns : tie.Need-returns
 returns c = search needs
@@ -35,7 +35,7 @@ slice-aggregate-reply-3 : tie.Need-slice-aggregate-reply-3
 slice-aggregate-reply-3 c = search needs
 
 reply-requires : tie.Need-reply-requires
-reply-requires c κs = search needs
+reply-requires c κs = tt
 
 array-share-prefix-line : tie.Need-array-share-prefix-line
 array-share-prefix-line c = c .before .before .reply .ensures .1
@@ -44,13 +44,13 @@ slice-aggregate-write-all : tie.Need-slice-aggregate-write-all
 slice-aggregate-write-all c = sym (length-take-le _ _ (c .before .before .before .reply .ensures .1))
 
 write-all-requires : tie.Need-write-all-requires
-write-all-requires c κs = search needs
+write-all-requires c κs = tt
 
 slice-aggregate-fail-2 : tie.Need-slice-aggregate-fail-2
 slice-aggregate-fail-2 c = search needs
 
 fail-requires-2 : tie.Need-fail-requires-2
-fail-requires-2 c κs = search needs
+fail-requires-2 c κs = tt
 
 returns-2 : tie.Need-returns-2
 returns-2 c = search needs

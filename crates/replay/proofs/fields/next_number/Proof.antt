@@ -8,8 +8,8 @@ use Rattle.replay.proofs.fields.next_number.Tie as tie
 returns : tie.Need-returns
 returns c = search needs
 
-field-end-requires : tie.Need-field-end-requires
-field-end-requires c κs = search needs
+find-requires : tie.Need-find-requires
+find-requires c κs = search needs
 
 returns-2 : tie.Need-returns-2
 returns-2 c = search needs
@@ -24,7 +24,7 @@ part-decimal-end : tie.Need-part-decimal-end
 part-decimal-end c = search needs
 
 decimal-requires : tie.Need-decimal-requires
-decimal-requires c κs = search needs
+decimal-requires c κs = tt
 
 enum-known-number : tie.Need-enum-known-number
 enum-known-number c = search needs
@@ -36,14 +36,14 @@ add-t7 : tie.Need-add-t7
 add-t7 c = search needs
 
 returns-4 : tie.Need-returns-4
-returns-4 c = (subst (AtMost (c .before .before .before .before .before .before .before .before .before .args .most)) (c .before .number .given .1) (c .before .before .before .decimal .ensures), let h = c .before .before .before .before .before .before .field-end .ensures .1 in omega arith)
+returns-4 c = (subst (AtMost (c .before .before .before .before .before .before .before .before .before .args .most)) (c .before .number .given .1) (c .before .before .before .decimal .ensures), let h = c .before .before .before .before .before .before .find .ensures .1 in omega arith)
 
 pub next-number-spec : {M : Type 1} → statement M
 next-number-spec =
     tie.close
     (tie.spec
     returns
-    field-end-requires
+    find-requires
     returns-2
     sub-decimal
     part-decimal-start

@@ -7,10 +7,10 @@ use Rattle.replay.proofs.program.answer_run.Statement.{statement}
 use Rattle.replay.proofs.program.answer_run.Tie as tie
 
 next-number-requires : tie.Need-next-number-requires
-next-number-requires c κs = search needs
+next-number-requires c κs = tt
 
 next-number-requires-2 : tie.Need-next-number-requires-2
-next-number-requires-2 c κs = search needs
+next-number-requires-2 c κs = tt
 
 returns : tie.Need-returns
 returns c = search needs
@@ -28,7 +28,7 @@ slice-aggregate-image : tie.Need-slice-aggregate-image
 slice-aggregate-image c = search needs
 
 image-requires : tie.Need-image-requires
-image-requires c κs = search needs
+image-requires c κs = tt
 
 enum-known-count : tie.Need-enum-known-count
 enum-known-count c = search needs
@@ -52,13 +52,13 @@ slice-aggregate-knit-execute-3 : tie.Need-slice-aggregate-knit-execute-3
 slice-aggregate-knit-execute-3 c = search needs
 
 knit-execute-requires : tie.Need-knit-execute-requires
-knit-execute-requires c κs = search needs
+knit-execute-requires c κs = tt
 
 slice-aggregate-write-all : tie.Need-slice-aggregate-write-all
 slice-aggregate-write-all c = search needs
 
 write-all-requires : tie.Need-write-all-requires
-write-all-requires c κs = search needs
+write-all-requires c κs = tt
 
 print-values-requires : tie.Need-print-values-requires
 print-values-requires c κs = search needs
@@ -67,7 +67,7 @@ returns-3 : tie.Need-returns-3
 returns-3 c = search needs
 
 print-refused-requires : tie.Need-print-refused-requires
-print-refused-requires c κs = search needs
+print-refused-requires c κs = tt
 
 returns-4 : tie.Need-returns-4
 returns-4 c = search needs

@@ -8,19 +8,19 @@ use Rattle.replay.proofs.program.answer_validate.Statement.{statement}
 use Rattle.replay.proofs.program.answer_validate.Tie as tie
 
 next-number-requires : tie.Need-next-number-requires
-next-number-requires c κs = search needs
+next-number-requires c κs = tt
 
 next-number-requires-2 : tie.Need-next-number-requires-2
-next-number-requires-2 c κs = search needs
+next-number-requires-2 c κs = tt
 
 next-number-requires-3 : tie.Need-next-number-requires-3
-next-number-requires-3 c κs = search needs
+next-number-requires-3 c κs = tt
 
 next-number-requires-4 : tie.Need-next-number-requires-4
-next-number-requires-4 c κs = search needs
+next-number-requires-4 c κs = tt
 
 next-number-requires-5 : tie.Need-next-number-requires-5
-next-number-requires-5 c κs = search needs
+next-number-requires-5 c κs = tt
 
 returns : tie.Need-returns
 returns c = search needs
@@ -38,7 +38,7 @@ slice-aggregate-image : tie.Need-slice-aggregate-image
 slice-aggregate-image c = search needs
 
 image-requires : tie.Need-image-requires
-image-requires c κs = search needs
+image-requires c κs = tt
 
 enum-known-count : tie.Need-enum-known-count
 enum-known-count c = search needs
@@ -65,19 +65,19 @@ cast-knit-validate-4 : tie.Need-cast-knit-validate-4
 cast-knit-validate-4 c = search needs
 
 knit-validate-requires : tie.Need-knit-validate-requires
-knit-validate-requires c κs = search needs
+knit-validate-requires c κs = tt
 
 slice-aggregate-write-all : tie.Need-slice-aggregate-write-all
 slice-aggregate-write-all c = search needs
 
 write-all-requires : tie.Need-write-all-requires
-write-all-requires c κs = search needs
+write-all-requires c κs = tt
 
 returns-3 : tie.Need-returns-3
 returns-3 c = search needs
 
 print-refused-requires : tie.Need-print-refused-requires
-print-refused-requires c κs = search needs
+print-refused-requires c κs = tt
 
 returns-4 : tie.Need-returns-4
 returns-4 c = search needs

@@ -16,7 +16,7 @@ slice-aggregate-write-all : tie.Need-slice-aggregate-write-all Inv-loop μ-loop
 slice-aggregate-write-all c = search needs
 
 write-all-requires : tie.Need-write-all-requires Inv-loop μ-loop
-write-all-requires c κs = search needs
+write-all-requires c κs = tt
 
 mul-print-decimal : tie.Need-mul-print-decimal Inv-loop μ-loop
 mul-print-decimal c = search needs
@@ -25,7 +25,7 @@ element-copy-out-print-decimal : tie.Need-element-copy-out-print-decimal Inv-loo
 element-copy-out-print-decimal c = search needs
 
 print-decimal-requires : tie.Need-print-decimal-requires Inv-loop μ-loop
-print-decimal-requires c κs = search needs
+print-decimal-requires c κs = tt
 
 add-i : tie.Need-add-i Inv-loop μ-loop
 add-i c = search needs
@@ -40,7 +40,7 @@ slice-aggregate-write-all-2 : tie.Need-slice-aggregate-write-all-2 Inv-loop μ-l
 slice-aggregate-write-all-2 c = search needs
 
 write-all-requires-2 : tie.Need-write-all-requires-2 Inv-loop μ-loop
-write-all-requires-2 c κs = search needs
+write-all-requires-2 c κs = tt
 
 returns : tie.Need-returns Inv-loop μ-loop
 returns c = search needs

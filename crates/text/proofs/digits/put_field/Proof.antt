@@ -12,7 +12,7 @@ put-word-requires : tie.Need-put-word-requires
 put-word-requires c κs = search needs
 
 decimal-width-requires : tie.Need-decimal-width-requires
-decimal-width-requires c κs = search needs
+decimal-width-requires c κs = tt
 
 add-put-digits : tie.Need-add-put-digits
 add-put-digits c = search needs

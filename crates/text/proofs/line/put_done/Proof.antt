@@ -12,13 +12,13 @@ put-word-requires : tie.Need-put-word-requires
 put-word-requires c κs = search needs
 
 number-requires : tie.Need-number-requires
-number-requires c κs = search needs
+number-requires c κs = tt
 
 put-field-requires : tie.Need-put-field-requires
 put-field-requires c κs = search needs
 
 kind-requires : tie.Need-kind-requires
-kind-requires c κs = search needs
+kind-requires c κs = tt
 
 cast-put-field : tie.Need-cast-put-field
 cast-put-field c = search needs
@@ -27,7 +27,7 @@ put-field-requires-2 : tie.Need-put-field-requires-2
 put-field-requires-2 c κs = search needs
 
 payload-requires : tie.Need-payload-requires
-payload-requires c κs = search needs
+payload-requires c κs = tt
 
 cast-put-field-2 : tie.Need-cast-put-field-2
 cast-put-field-2 c = search needs

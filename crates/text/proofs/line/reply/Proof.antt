@@ -10,10 +10,10 @@ returns : tie.Need-returns
 returns c = rw (c .before .before .if1 .taken) (reply-long _ _ _ _ _ _ (c .put-refused .ensures))
 
 default-requires : tie.Need-default-requires
-default-requires c κs = search needs
+default-requires c κs = tt
 
 execute-outcome-requires : tie.Need-execute-outcome-requires
-execute-outcome-requires c κs = search needs
+execute-outcome-requires c κs = tt
 
 put-outcome-requires : tie.Need-put-outcome-requires
 put-outcome-requires c κs = search needs
