@@ -73,9 +73,10 @@ uint64_t knit_validate(const uint8_t *image, size_t image_len,
 /* The program has run, and returned or trapped. Answer: status; kind; payload; fuel used; digest. */
 #define KNIT_DONE 0
 
-/* Refusals for want of room: a frame would begin and the lent memory can't hold it. Answer: fuel used, 0 for the entry's frame. */
-#define KNIT_FRAME_ROOM 6    /* No record is left for it. Lend more words for frames, or lower max_call_depth. */
-#define KNIT_REGISTER_ROOM 7 /* A record is left, but too few words for its registers. Lend more, or lower max_call_depth. */
+/* Refusals for want of room: a frame would begin and the lent memory can't hold it. Answer: fuel used, 0 for the entry's frame.
+ * Another depth limit is no cure: it makes another result, with another digest. */
+#define KNIT_FRAME_ROOM 6    /* No record is left for it. Lend more words for frames. */
+#define KNIT_REGISTER_ROOM 7 /* A record is left, but too few words for its registers. Lend more. */
 
 /* How a run ended: 0, or 1 + the trap's code. A trap is a result, its value Unit. */
 #define KNIT_STATUS_RETURNED 0

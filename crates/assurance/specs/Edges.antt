@@ -30,7 +30,7 @@ use Rattle.exec.specs.Execute.{entered}
 use Rattle.exec.specs.Execute as executing
 use Rattle.text.specs.Ascii.{ascii}
 use Rattle.text.specs.Identifier.{identifier}
-use Rattle.text.specs.Line.{lineOf, ran}
+use Rattle.text.specs.Line.{printed}
 
 -- ---- registers, by what they hold
 abbrev pub boolFalse : ℕ
@@ -118,14 +118,17 @@ headless = record { entry = 1; functions = record { name = 0; regs = 1; code = R
 abbrev pub overshooting : Program
 overshooting = alone 1 (JumpTo 2 ∷ Ret 0 ∷ Nop ∷ [])
 
--- the image that document 01 writes out: one function of one register, which loads -1 and returns it
-abbrev pub documentImage : List ℕ
-documentImage =
+-- the image that document 01 writes out: one function, which loads -1 and returns it; its registers are one, or so many as two bytes say
+abbrev pub imageWith : ℕ → ℕ → List ℕ
+imageWith low high =
     1 ∷ 0 ∷ 0 ∷ 0 ∷ 1 ∷ 0 ∷ 0 ∷ 0 ∷ 2 ∷ 0 ∷ 0 ∷ 0 ∷ 24 ∷ 0 ∷ 0 ∷ 0 ∷ 40 ∷ 0 ∷ 0 ∷ 0 ∷ 64 ∷ 0 ∷ 0 ∷ 0
-    ∷ 7 ∷ 0 ∷ 0 ∷ 0 ∷ 1 ∷ 0 ∷ 0 ∷ 0 ∷ 0 ∷ 0 ∷ 0 ∷ 0 ∷ 2 ∷ 0 ∷ 0 ∷ 0
+    ∷ 7 ∷ 0 ∷ 0 ∷ 0 ∷ low ∷ high ∷ 0 ∷ 0 ∷ 0 ∷ 0 ∷ 0 ∷ 0 ∷ 2 ∷ 0 ∷ 0 ∷ 0
     ∷ 6 ∷ 0 ∷ 0 ∷ 0 ∷ 0 ∷ 0 ∷ 0 ∷ 0 ∷ 255 ∷ 255 ∷ 255 ∷ 255
     ∷ 55 ∷ 0 ∷ 0 ∷ 0 ∷ 0 ∷ 0 ∷ 0 ∷ 0 ∷ 0 ∷ 0 ∷ 0 ∷ 0
     ∷ []
+
+abbrev pub documentImage : List ℕ
+documentImage = imageWith 1 0
 
 pub data Edge : Type 0 where
   -- an opcode on two registers computes this
@@ -170,7 +173,7 @@ Holds (breaking p fault what used) =
     (programFault safeProfile p ≡ verdictNumbers fault) × ((end .what ≡ what) × (end .used ≡ used))
 Holds (execution bytes answer) =
     executing.execution form1 unit bytes (defaultConfig .«max_call_depth») (defaultConfig .fuel) frameRoom registerRoom .answer ≡ answer
-Holds (printing bytes more line) = lineOf (ran bytes more frameRoom registerRoom .answer) ≡ ascii line
+Holds (printing bytes more line) = printed bytes more ≡ ascii line
 Holds (naming lesson digest id) = identifier lesson digest ≡ ascii id
 
 unfoldable pub edges : List Edge
@@ -210,6 +213,8 @@ edges =
     ∷ Edge.running overshooting 64 9 (Trapped InvalidPc) 2
     ∷ Edge.printing documentImage false "done 0 3 4294967295 2\n"
     ∷ Edge.printing documentImage true "refused 8 0\n"
+    ∷ Edge.printing (imageWith 0 8) false "done 0 3 4294967295 2\n"
+    ∷ Edge.printing (imageWith 1 8) false "refused 7 0\n"
     ∷ Edge.printing [] false "refused 1 0\n"
     ∷ Edge.naming 42 0x6ffa4144d88d4a53 "0000002a-6ffa4144d88d4a53"
     ∷ Edge.naming 0xffffffff 0 "ffffffff-0000000000000000"

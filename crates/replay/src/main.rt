@@ -1,13 +1,19 @@
 // Answers a stream of cases, one line each, so that they can be compared with the answers of the Rust: `operate`, `validate` and `run`,
-// as oracle/README.md describes them. A line that is no case is answered `bad line`. The cases and answers beside this program are made
-// by oracle/make-list.
+// as oracle/README.md describes them. A line that is no case is answered `bad line`, one that is longer than this program holds or needs
+// more than 64 frames or 16,384 registers `too large`. The cases and answers beside this program are made by oracle/make-list.
+//
+// Where standard input cannot be read or standard output cannot be written, the answers end there; standard error says so.
+use libc::EINTR;
 use libc::STDIN_FILENO;
-use libc::STDOUT_FILENO;
+use lines::Answered;
+use lines::print_bad;
+use lines::print_too_large;
 ghost use Prim.Native.Nat.{_≤_, _<_};
 ghost use mathlib.Core.Path.{_≡_};
 ghost use lib.ListN.{length};
 
 mod fields;
+mod lines;
 mod operation;
 mod program;
 
@@ -36,7 +42,7 @@ fn begins(line: &[u8], word: &[u8]) -> bool {
     true
 }
 
-fn answer(line: &[u8]) -> bool {
+fn answer(line: &[u8]) -> Answered {
     if begins(line, b"operate ") {
         return operation::answer_operation(line);
     }
@@ -46,16 +52,22 @@ fn answer(line: &[u8]) -> bool {
     if begins(line, b"run ") {
         return program::answer_run(line);
     }
-    false
+    Answered::NoCase
 }
 
-fn print_bad() {
-    io::write_all(STDOUT_FILENO, b"bad line\n");
+// Says whether to go on.
+fn goes_on(written: bool) -> bool {
+    if !written {
+        os::fail(b"replay: standard output");
+    }
+    written
 }
 
-fn answer_line(line: &[u8]) {
-    if !answer(line) {
-        print_bad();
+fn answer_line(line: &[u8]) -> bool {
+    match answer(line) {
+        Answered::Told => true,
+        Answered::NoCase => goes_on(print_bad()),
+        Answered::Failed => goes_on(false),
     }
 }
 
@@ -80,35 +92,33 @@ fn take_line(buf: &mut [u8], end: usize, s: Stream) -> Stream
     requires { ⌜ s .held ≤ length (now buf) ⌝ }
     ensures { λ r. ⌜ r .held ≤ length (now (buf .exit)) ⌝ }
 {
-    if !s.skip {
-        answer_line(&buf[..end]);
-    }
+    let go = s.skip || answer_line(&buf[..end]);
     Stream {
         held: drop_front(buf, end + 1, s.held),
         skip: false,
-        go: true,
+        go,
     }
 }
 
-// Some bytes, or none where the input has ended or cannot be read.
-fn read_part(buf: &mut [u8]) -> usize
-    ensures { λ r. ⌜ r ≤ length (now (buf .exit)) ⌝ }
-{
-    let got = libc::read(STDIN_FILENO, buf);
-    io::count(got, buf)
-}
-
-// No line's end is there, and the buffer is full of a line that is no case.
+// No line's end is there, and the buffer is full.
 fn give_up(s: Stream) -> Stream
     ensures { λ r. ⌜ r .held ≡ 0 ⌝ }
 {
-    if !s.skip {
-        print_bad();
-    }
+    let go = s.skip || goes_on(print_too_large());
     Stream {
         held: 0,
         skip: true,
-        go: true,
+        go,
+    }
+}
+
+// The input has ended; its last line need not have a line feed.
+fn end_line(buf: &[u8], s: Stream)
+    requires { ⌜ s .held ≤ length (now buf) ⌝ }
+{
+    let held = s.held;
+    if (held > 0) & !s.skip {
+        answer_line(&buf[..held]);
     }
 }
 
@@ -118,16 +128,22 @@ fn read_on(buf: &mut [u8], s: Stream) -> Stream
     ensures { λ r. ⌜ r .held ≤ length (now (buf .exit)) ⌝ }
 {
     let held = s.held;
-    let got = read_part(&mut buf[held..]);
-    if got > 0 {
+    let got = libc::read(STDIN_FILENO, &mut buf[held..]);
+    let n = io::count(got, &buf[held..]);
+    if n > 0 {
         return Stream {
-            held: held + got,
+            held: held + n,
             skip: s.skip,
             go: true,
         };
     }
-    if (held > 0) & !s.skip {
-        answer_line(&buf[..held]);
+    if got < 0 {
+        if os::errno() == EINTR {
+            return s;
+        }
+        os::fail(b"replay: standard input");
+    } else {
+        end_line(buf, s);
     }
     Stream {
         held: 0,

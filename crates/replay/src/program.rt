@@ -2,13 +2,16 @@
 use crate::fields::Field;
 use crate::fields::image;
 use crate::fields::next_number;
+use crate::lines::Answered;
+use crate::lines::print_too_large;
+use crate::lines::told;
 use capi::knit_execute;
 use capi::knit_validate;
 use libc::STDOUT_FILENO;
 ghost use Prim.Native.Nat.{_≤_};
 
-// The longest image of a line.
-const IMAGE_BYTES: usize = 8000;
+// As many bytes as a line has room for.
+const IMAGE_BYTES: usize = 8192;
 
 // Enough for depth limit 64 and functions of up to 256 registers.
 const FRAME_WORDS: usize = 256;
@@ -30,7 +33,7 @@ fn values_of(number: u64) -> usize
     }
 }
 
-fn print_values(words: &[u64; 5], n: usize)
+fn print_values(words: &[u64; 5], n: usize) -> bool
     requires { ⌜ n ≤ 5 ⌝ }
 {
     let mut i = 0;
@@ -39,29 +42,41 @@ fn print_values(words: &[u64; 5], n: usize)
         io::print_decimal(STDOUT_FILENO, words[i]);
         i += 1;
     }
-    io::write_all(STDOUT_FILENO, b"\n");
+    io::write_all(STDOUT_FILENO, b"\n")
 }
 
-fn print_refused(number: u64, words: &[u64; 5]) {
+fn print_refused(number: u64, words: &[u64; 5]) -> bool {
     io::write_all(STDOUT_FILENO, b"refused ");
     io::print_decimal(STDOUT_FILENO, number);
-    print_values(words, values_of(number));
+    print_values(words, values_of(number))
+}
+
+// Refusals for want of room are this program's, which the Rust has no counterpart for.
+fn print_run(number: u64, words: &[u64; 5]) -> bool {
+    if number == 0 {
+        io::write_all(STDOUT_FILENO, b"done");
+        return print_values(words, 5);
+    }
+    if (number == 6) | (number == 7) {
+        return print_too_large();
+    }
+    print_refused(number, words)
 }
 
 // `validate`, five limits and an image: `admitted`, or `refused`, the refusal's number and its values.
-pub fn answer_validate(line: &[u8]) -> bool {
+pub fn answer_validate(line: &[u8]) -> Answered {
     let registers = next_number(line, 9, 0xffff);
     let functions = next_number(line, registers.at, 0xffff);
     let depth = next_number(line, functions.at, 0xffff);
     let instrs = next_number(line, depth.at, 0xffff_ffff);
     let fuel = next_number(line, instrs.at, 0xffff_ffff_ffff_ffff);
     if !(registers.good & functions.good & depth.good & instrs.good & fuel.good) {
-        return false;
+        return Answered::NoCase;
     }
     let from = fuel.at;
     let mut bytes = [0u8; IMAGE_BYTES];
     let Field::Number(count) = image(&line[from..], &mut bytes) else {
-        return false;
+        return Answered::NoCase;
     };
     let n = count as usize;
     let mut words = [0u64; 5];
@@ -75,24 +90,22 @@ pub fn answer_validate(line: &[u8]) -> bool {
         &mut words,
     );
     if number == 0 {
-        io::write_all(STDOUT_FILENO, b"admitted\n");
-        return true;
+        return told(io::write_all(STDOUT_FILENO, b"admitted\n"));
     }
-    print_refused(number, &words);
-    true
+    told(print_refused(number, &words))
 }
 
-// `run`, fuel, depth limit and an image: `done`, status, kind, payload, fuel used and digest; or `refused` as above.
-pub fn answer_run(line: &[u8]) -> bool {
+// `run`, fuel, depth limit and an image: `done`, status, kind, payload, fuel used and digest; `refused` as above; or `too large`.
+pub fn answer_run(line: &[u8]) -> Answered {
     let fuel = next_number(line, 4, 0xffff_ffff_ffff_ffff);
     let depth = next_number(line, fuel.at, 0xffff);
     if !(fuel.good & depth.good) {
-        return false;
+        return Answered::NoCase;
     }
     let from = depth.at;
     let mut bytes = [0u8; IMAGE_BYTES];
     let Field::Number(count) = image(&line[from..], &mut bytes) else {
-        return false;
+        return Answered::NoCase;
     };
     let n = count as usize;
     let mut frames = [0u64; FRAME_WORDS];
@@ -106,11 +119,5 @@ pub fn answer_run(line: &[u8]) -> bool {
         &mut registers,
         &mut words,
     );
-    if number == 0 {
-        io::write_all(STDOUT_FILENO, b"done");
-        print_values(&words, 5);
-        return true;
-    }
-    print_refused(number, &words);
-    true
+    told(print_run(number, &words))
 }

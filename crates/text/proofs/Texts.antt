@@ -6,8 +6,8 @@ use mathlib.Core.List.{List, [], _∷_, _++_, append-assoc}
 use native.Mathlib.Nat.{zero-add}
 use native.Mathlib.Omega.{arith}
 use borrow.Author.Tests.{lt-ltb, le-ltb, ne-eqb}
-use lib.ListN.{length, drop, length-append}
-use lib.Seq.{sets, sets-eq, length-sets}
+use lib.ListN.{length, take, drop, length-append}
+use lib.Seq.{sets, sets-eq, length-sets, take-append-seam}
 use Rattle.exec.proofs.Lists.{sets-append}
 use Rattle.image.specs.Records.{form1}
 use Rattle.exec.specs.Price.{unit}
@@ -17,7 +17,7 @@ use Rattle.exec.specs.Execute.{Executed, executed, execution}
 use Rattle.text.specs.Ascii.{ascii}
 use Rattle.text.specs.Digits.{digits, widthOf, decimal}
 use Rattle.text.specs.Identifier.{identifier, identified, identification}
-use Rattle.text.specs.Line.{fields, lineOf, Puts, ran, replied, replyTo}
+use Rattle.text.specs.Line.{fields, lineOf, lineBytes, Puts, ran, Replied, replied, replyTo}
 use Rattle.text.proofs.Stores.{length-digits}
 
 pub length-decimal : (n : ℕ) → length (decimal n) ≡ widthOf n
@@ -73,11 +73,11 @@ pub record Owes (line l m : List ℕ) (at : ℕ) (ns : List ℕ) : Type 0 where
   pub whole : text ++ fields ns ≡ line
   pub put : Puts text l m at
 
-pub owes-done : (l m ns : List ℕ) → m ≡ sets l 0 (ascii "done") → 96 ≤ length l → Owes (lineOf (0 ∷ ns)) l m 4 ns
+pub owes-done : (l m ns : List ℕ) → m ≡ sets l 0 (ascii "done") → lineBytes ≤ length l → Owes (lineOf (0 ∷ ns)) l m 4 ns
 unfolding lineOf
 owes-done l m ns h fits = record { text = ascii "done"; whole = refl; put = (h, refl, omega arith) }
 
-pub owes-refused : (l m : List ℕ) (number answer : ℕ) → 1 ≤ number → m ≡ sets l 0 (ascii "refused") → 96 ≤ length l
+pub owes-refused : (l m : List ℕ) (number answer : ℕ) → 1 ≤ number → m ≡ sets l 0 (ascii "refused") → lineBytes ≤ length l
     → Owes (lineOf (number ∷ answer ∷ [])) l m 7 (number ∷ answer ∷ [])
 unfolding lineOf
 owes-refused l m number answer some h fits =
@@ -117,3 +117,13 @@ unfolding ran
 reply-run k bytes frames regs fr rg l o numbers count is e put =
     let same = ap (λ (j : CoreConfig). execution form1 unit bytes (j .«max_call_depth») (j .fuel) frames regs) is in
     reply-is (executed numbers fr rg) bytes false frames regs l o count (sym (e ∙ same)) put
+
+-- the line that a reply puts is the one for its answer
+pub reply-line : (bytes : List ℕ) (more : Bool) (frames regs l o fr rg : List ℕ) (r : ℕ) → replied r o fr rg ≡ replyTo bytes more frames regs l
+    → take r o ≡ lineOf (ran bytes more frames regs .answer)
+unfolding replyTo
+reply-line bytes more frames regs l o fr rg r e =
+    let text : List ℕ = lineOf (ran bytes more frames regs .answer) in
+    let count : r ≡ length text = ap (λ (x : Replied). x .count) e in
+    let line : o ≡ text ++ drop (length text) l = ap (λ (x : Replied). x .line) e in
+    rw (count, line) (take-append-seam text (drop (length text) l))

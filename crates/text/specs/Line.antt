@@ -1,14 +1,15 @@
 -- The runner's line.
-use Prim.Native.Nat.{ℕ, _≤_}
+use Prim.Native.Nat.{ℕ, _*_, _≤_}
 use mathlib.Core.Bool.{Bool}
 use mathlib.Core.Path.{_≡_}
 use mathlib.Core.List.{List, [], _∷_, _++_}
 use lib.Dec.{eqb}
-use lib.ListN.{length, getD, drop}
+use lib.ListN.{length, getD, drop, replicate}
 use lib.Seq.{sets}
 use Rattle.basis.specs.Choice.{pick}
 use Rattle.image.specs.Records.{form1}
 use Rattle.exec.specs.Price.{unit}
+use Rattle.exec.specs.Lent.{frameWords}
 use Rattle.exec.specs.Config.{defaultConfig}
 use Rattle.exec.specs.Execute.{Executed, executed, execution}
 use Rattle.text.specs.Ascii.{ascii}
@@ -22,6 +23,10 @@ fields (n ∷ ns) = (ascii " " ++ decimal n) ++ fields ns
 -- `done` and the values of a result; `refused`, the refusal's number and its answer
 unfoldable pub lineOf : List ℕ → List ℕ
 lineOf answer = pick (eqb (getD answer 0 0) 0) (ascii "done" ++ fields (drop 1 answer)) (ascii "refused" ++ fields answer)
+
+-- no line is longer: a word, four numbers of at most 20 digits, a space before each, a line feed
+abbrev pub lineBytes : ℕ
+lineBytes = 96
 
 -- a text was put at the start of bytes that have room for it; it is so long
 abbrev pub Puts : List ℕ → List ℕ → List ℕ → ℕ → Type 0
@@ -52,3 +57,14 @@ unfoldable pub replyTo : List ℕ → Bool → List ℕ → List ℕ → List �
 replyTo bytes more frames regs line =
     let e = ran bytes more frames regs in
     replied (length (lineOf (e .answer))) (lineOf (e .answer) ++ drop (length (lineOf (e .answer))) line) (e .frames) (e .regs)
+
+-- ---- the runner's own room: 64 frames and 2,048 registers
+abbrev pub runnerFrames : List ℕ
+runnerFrames = replicate (64 * frameWords) 0
+
+abbrev pub runnerRegs : List ℕ
+runnerRegs = replicate 2048 0
+
+-- what it prints for an image, with more bytes after it or not
+unfoldable pub printed : List ℕ → Bool → List ℕ
+printed bytes more = lineOf (ran bytes more runnerFrames runnerRegs .answer)

@@ -13,13 +13,13 @@ ghost use lib.ListN.{length};
 ghost use lib.Seq.{sets};
 ghost use Rattle.image.specs.Image.{faultNumbers};
 ghost use Rattle.exec.specs.Execute.{outcomeNumbers, resultNumbers};
-ghost use Rattle.text.specs.Line.{lineOf, Puts, replied, replyTo};
+ghost use Rattle.text.specs.Line.{lineOf, lineBytes, Puts, replied, replyTo};
 
-// No line is longer: a word, four numbers of at most 20 digits, a space before each, a line feed.
+// As many bytes as the longest line can have.
 pub const LINE_BYTES: usize = 96;
 
 fn put_done(result: CoreResult, out: &mut [u8]) -> usize
-    requires { ⌜ 96 ≤ length (now out) ⌝ }
+    requires { ⌜ lineBytes ≤ length (now out) ⌝ }
     ensures { λ r. ⌜ Puts (lineOf (0 ∷ resultNumbers result)) (now (out .entry)) (now (out .exit)) r ⌝ }
 {
     let status = result.status;
@@ -34,7 +34,7 @@ fn put_done(result: CoreResult, out: &mut [u8]) -> usize
 }
 
 fn put_refused(number: u64, answer: u64, out: &mut [u8]) -> usize
-    requires { ⌜ 96 ≤ length (now out) ⌝ }
+    requires { ⌜ lineBytes ≤ length (now out) ⌝ }
     requires { ⌜ 1 ≤ number ⌝ }
     ensures { λ r. ⌜ Puts (lineOf (number ∷ answer ∷ [])) (now (out .entry)) (now (out .exit)) r ⌝ }
 {
@@ -46,7 +46,7 @@ fn put_refused(number: u64, answer: u64, out: &mut [u8]) -> usize
 }
 
 fn put_fault(fault: ImageFault, out: &mut [u8]) -> usize
-    requires { ⌜ 96 ≤ length (now out) ⌝ }
+    requires { ⌜ lineBytes ≤ length (now out) ⌝ }
     ensures { λ r. ⌜ Puts (lineOf (faultNumbers fault)) (now (out .entry)) (now (out .exit)) r ⌝ }
 {
     match fault {
@@ -59,7 +59,7 @@ fn put_fault(fault: ImageFault, out: &mut [u8]) -> usize
 }
 
 fn put_outcome(outcome: CoreOutcome, out: &mut [u8]) -> usize
-    requires { ⌜ 96 ≤ length (now out) ⌝ }
+    requires { ⌜ lineBytes ≤ length (now out) ⌝ }
     ensures { λ r. ⌜ Puts (lineOf (outcomeNumbers outcome)) (now (out .entry)) (now (out .exit)) r ⌝ }
 {
     match outcome {

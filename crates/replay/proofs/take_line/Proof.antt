@@ -11,10 +11,10 @@ slice-reshare-prefix-answer-line : tie.Need-slice-reshare-prefix-answer-line
 slice-reshare-prefix-answer-line c = search needs
 
 slice-aggregate-answer-line : tie.Need-slice-aggregate-answer-line
-slice-aggregate-answer-line c = let h : c .before .before .before .before .args .end ≤ length (c .before .before .before .before .args .buf .now) = omega arith in sym (length-take-le _ _ h)
+slice-aggregate-answer-line c = let h : c .before .before .before .args .end ≤ length (c .before .before .before .args .buf .now) = omega arith in sym (length-take-le _ _ h)
 
 answer-line-requires : tie.Need-answer-line-requires
-answer-line-requires c κs = tt
+answer-line-requires c κs = search needs
 
 add-drop-front : tie.Need-add-drop-front
 add-drop-front c = search needs

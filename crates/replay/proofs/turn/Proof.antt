@@ -23,7 +23,7 @@ returns : tie.Need-returns
 returns c = search needs
 
 give-up-requires : tie.Need-give-up-requires
-give-up-requires c κs = tt
+give-up-requires c κs = search needs
 
 same-length-2 : tie.Need-same-length-2
 same-length-2 c = search needs

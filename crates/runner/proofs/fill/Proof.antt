@@ -1,10 +1,8 @@
+use Prim.Native.Nat.{_-_, _≤_}
 use native.Mathlib.Omega.{arith}
-use Prim.Native.Nat.{_≤_}
-use mathlib.Core.Path.{_≡_}
+use mathlib.Core.Path.{_≡_, _∙_, subst}
 use lib.ListN.{length}
-use mathlib.Core.Path.{subst}
 use Rattle.runner.specs.Reading.{Within}
-use Rattle.runner.proofs.Filling.{filled, filled-then}
 use borrow.Author.Needs.{needs}
 use Rattle.runner.proofs.fill.Statement.{statement}
 use Rattle.runner.proofs.fill.Tie as tie
@@ -21,29 +19,20 @@ loop-holds c = search needs
 sub-turns : tie.Need-sub-turns Inv-loop μ-loop
 sub-turns c = search needs
 
-sub-read-part : tie.Need-sub-read-part Inv-loop μ-loop
-sub-read-part c = search needs
-
-part-read-part-start : tie.Need-part-read-part-start Inv-loop μ-loop
-part-read-part-start c = search needs
-
-part-read-part-end : tie.Need-part-read-part-end Inv-loop μ-loop
-part-read-part-end c = search needs
-
-read-part-requires : tie.Need-read-part-requires Inv-loop μ-loop
-read-part-requires c κs = tt
+read-on-requires : tie.Need-read-on-requires Inv-loop μ-loop
+read-on-requires c κs = search needs
 
 enum-known-n : tie.Need-enum-known-n Inv-loop μ-loop
 enum-known-n c = search needs
 
 add-count : tie.Need-add-count Inv-loop μ-loop
-add-count c = let h = filled (c .before .before .before .before .before .before .before .before .before .loop .count) (c .before .n .given .0 .0) (c .before .before .before .before .before .before .before .before .before .loop .buf) (c .before .before .before .before .before .read-part .last .0) (c .before .before .before .before .before .before .before .before .before .loop .inv .0) (c .before .before .before .before .before .read-part .kept .0) (subst (Within (length (c .before .before .before .before .before .read-part .last .0))) (c .before .n .given .1) (c .before .before .before .before .before .read-part .ensures)) in record { fits = omega arith }
+add-count c = let h = subst (Within (length (c .before .before .before .before .before .read-on .last .0) - c .before .before .before .before .before .before .before .before .before .loop .count)) (c .before .n .given .1) (c .before .before .before .before .before .read-on .ensures .0) in let k = c .before .before .before .before .before .read-on .kept .0 in record { fits = omega arith }
 
 loop-less : tie.Need-loop-less Inv-loop μ-loop
 loop-less c = search needs
 
 loop-again : tie.Need-loop-again Inv-loop μ-loop
-loop-again c = (filled-then (c .before .before .before .before .before .before .before .before .before .loop .count) (c .before .n .given .0 .0) (c .before .before .before .before .before .before .before .before .before .loop .buf) (c .before .before .before .before .before .read-part .last .0) (c .before .before .before .before .before .before .before .before .before .loop .inv .0) (c .before .before .before .before .before .read-part .kept .0) (subst (Within (length (c .before .before .before .before .before .read-part .last .0))) (c .before .n .given .1) (c .before .before .before .before .before .read-part .ensures)), search needs)
+loop-again c = let h = subst (Within (length (c .before .before .before .before .before .read-on .last .0) - c .before .before .before .before .before .before .before .before .before .loop .count)) (c .before .n .given .1) (c .before .before .before .before .before .read-on .ensures .0) in let k = c .before .before .before .before .before .read-on .kept .0 in (omega arith, k ∙ c .before .before .before .before .before .before .before .before .before .loop .inv .1)
 
 enum-told : tie.Need-enum-told Inv-loop μ-loop
 enum-told c = search needs
@@ -86,10 +75,7 @@ fill-spec =
     μ-loop
     loop-holds
     sub-turns
-    sub-read-part
-    part-read-part-start
-    part-read-part-end
-    read-part-requires
+    read-on-requires
     enum-known-n
     add-count
     loop-less

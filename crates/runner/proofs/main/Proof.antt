@@ -11,13 +11,13 @@ slice-aggregate-read-image-2 : tie.Need-slice-aggregate-read-image-2
 slice-aggregate-read-image-2 c = search needs
 
 read-image-requires : tie.Need-read-image-requires
-read-image-requires c κs = tt
+read-image-requires c κs = search needs
 
 slice-aggregate-fail : tie.Need-slice-aggregate-fail
 slice-aggregate-fail c = search needs
 
 fail-requires : tie.Need-fail-requires
-fail-requires c κs = tt
+fail-requires c κs = search needs
 
 returns : tie.Need-returns
 returns c = search needs
@@ -25,32 +25,26 @@ returns c = search needs
 array-share-prefix-image : tie.Need-array-share-prefix-image
 array-share-prefix-image c = search needs
 
-slice-aggregate-reply : tie.Need-slice-aggregate-reply
-slice-aggregate-reply c = sym (length-take-le _ _ (c .before .before .before .before .before .read-image .ensures))
+slice-aggregate-answer : tie.Need-slice-aggregate-answer
+slice-aggregate-answer c = sym (length-take-le _ _ (c .before .before .before .before .before .read-image .ensures .0))
 
-slice-aggregate-reply-2 : tie.Need-slice-aggregate-reply-2
-slice-aggregate-reply-2 c = search needs
-
-slice-aggregate-reply-3 : tie.Need-slice-aggregate-reply-3
-slice-aggregate-reply-3 c = search needs
-
-reply-requires : tie.Need-reply-requires
-reply-requires c κs = tt
+answer-requires : tie.Need-answer-requires
+answer-requires c κs = search needs
 
 array-share-prefix-line : tie.Need-array-share-prefix-line
-array-share-prefix-line c = c .before .before .reply .ensures .1
+array-share-prefix-line c = search needs
 
-slice-aggregate-write-all : tie.Need-slice-aggregate-write-all
-slice-aggregate-write-all c = sym (length-take-le _ _ (c .before .before .before .reply .ensures .1))
+slice-aggregate-write-line : tie.Need-slice-aggregate-write-line
+slice-aggregate-write-line c = sym (length-take-le _ _ (c .before .answer .ensures .1))
 
-write-all-requires : tie.Need-write-all-requires
-write-all-requires c κs = tt
+write-line-requires : tie.Need-write-line-requires
+write-line-requires c κs = search needs
 
 slice-aggregate-fail-2 : tie.Need-slice-aggregate-fail-2
 slice-aggregate-fail-2 c = search needs
 
 fail-requires-2 : tie.Need-fail-requires-2
-fail-requires-2 c κs = tt
+fail-requires-2 c κs = search needs
 
 returns-2 : tie.Need-returns-2
 returns-2 c = search needs
@@ -69,13 +63,11 @@ main-spec =
     fail-requires
     returns
     array-share-prefix-image
-    slice-aggregate-reply
-    slice-aggregate-reply-2
-    slice-aggregate-reply-3
-    reply-requires
+    slice-aggregate-answer
+    answer-requires
     array-share-prefix-line
-    slice-aggregate-write-all
-    write-all-requires
+    slice-aggregate-write-line
+    write-line-requires
     slice-aggregate-fail-2
     fail-requires-2
     returns-2

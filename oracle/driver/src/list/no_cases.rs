@@ -15,6 +15,7 @@ pub fn all() -> Vec<String> {
     let mut lines: Vec<String> = good().iter().flat_map(|line| of_any_form(line)).collect();
     let [operate, validate, run] = good();
     lines.extend(exchanged(&operate, &OPERATIONS));
+    lines.extend(exchanged(&operate, &IMPOSSIBLE));
     lines.extend(exchanged(&validate, &LIMITS));
     lines.extend(exchanged(&run, &RUNS));
     for line in [&validate, &run] {
@@ -67,6 +68,25 @@ const OPERATIONS: [(&str, &str); 13] = [
     ("0000000300000007", "---------------"),
     ("0000000300000002", "000000030000000"),
     ("0000000300000002", "000000030000000\r"),
+];
+
+/// What is put for what in an operation so that no image could hold it: opcodes
+/// that compute nothing or do not exist, something in a field without use,
+/// values that a load does not have, words that are no value's.
+const IMPOSSIBLE: [(&str, &str); 13] = [
+    ("1a", "00"),
+    ("1a", "02"),
+    ("1a", "33"),
+    ("1a", "38"),
+    ("1a", "ff"),
+    ("1a 00", "1a 01"),
+    ("1a 00 00000000", "1a 00 00000001"),
+    ("1a 00", "04 04"),
+    ("1a 00", "05 02"),
+    ("1a 00", "06 01"),
+    ("0000000300000007", "0000000900000000"),
+    ("0000000300000007", "0000000600000000"),
+    ("0000000300000002", "0000000200000002"),
 ];
 
 /// What is put for what in the limits: signs, zeros in front, digits that are

@@ -7,10 +7,10 @@ use Rattle.replay.proofs.program.answer_run.Statement.{statement}
 use Rattle.replay.proofs.program.answer_run.Tie as tie
 
 next-number-requires : tie.Need-next-number-requires
-next-number-requires c κs = tt
+next-number-requires c κs = search needs
 
 next-number-requires-2 : tie.Need-next-number-requires-2
-next-number-requires-2 c κs = tt
+next-number-requires-2 c κs = search needs
 
 returns : tie.Need-returns
 returns c = search needs
@@ -54,23 +54,14 @@ slice-aggregate-knit-execute-3 c = search needs
 knit-execute-requires : tie.Need-knit-execute-requires
 knit-execute-requires c κs = tt
 
-slice-aggregate-write-all : tie.Need-slice-aggregate-write-all
-slice-aggregate-write-all c = search needs
+print-run-requires : tie.Need-print-run-requires
+print-run-requires c κs = tt
 
-write-all-requires : tie.Need-write-all-requires
-write-all-requires c κs = tt
-
-print-values-requires : tie.Need-print-values-requires
-print-values-requires c κs = search needs
+told-requires : tie.Need-told-requires
+told-requires c κs = tt
 
 returns-3 : tie.Need-returns-3
 returns-3 c = search needs
-
-print-refused-requires : tie.Need-print-refused-requires
-print-refused-requires c κs = tt
-
-returns-4 : tie.Need-returns-4
-returns-4 c = search needs
 
 pub answer-run-spec : {M : Type 1} → statement M
 answer-run-spec =
@@ -92,9 +83,6 @@ answer-run-spec =
     slice-aggregate-knit-execute-2
     slice-aggregate-knit-execute-3
     knit-execute-requires
-    slice-aggregate-write-all
-    write-all-requires
-    print-values-requires
-    returns-3
-    print-refused-requires
-    returns-4)
+    print-run-requires
+    told-requires
+    returns-3)

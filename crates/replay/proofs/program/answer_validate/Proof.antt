@@ -8,19 +8,19 @@ use Rattle.replay.proofs.program.answer_validate.Statement.{statement}
 use Rattle.replay.proofs.program.answer_validate.Tie as tie
 
 next-number-requires : tie.Need-next-number-requires
-next-number-requires c κs = tt
+next-number-requires c κs = search needs
 
 next-number-requires-2 : tie.Need-next-number-requires-2
-next-number-requires-2 c κs = tt
+next-number-requires-2 c κs = search needs
 
 next-number-requires-3 : tie.Need-next-number-requires-3
-next-number-requires-3 c κs = tt
+next-number-requires-3 c κs = search needs
 
 next-number-requires-4 : tie.Need-next-number-requires-4
-next-number-requires-4 c κs = tt
+next-number-requires-4 c κs = search needs
 
 next-number-requires-5 : tie.Need-next-number-requires-5
-next-number-requires-5 c κs = tt
+next-number-requires-5 c κs = search needs
 
 returns : tie.Need-returns
 returns c = search needs
@@ -73,11 +73,17 @@ slice-aggregate-write-all c = search needs
 write-all-requires : tie.Need-write-all-requires
 write-all-requires c κs = tt
 
+told-requires : tie.Need-told-requires
+told-requires c κs = tt
+
 returns-3 : tie.Need-returns-3
 returns-3 c = search needs
 
 print-refused-requires : tie.Need-print-refused-requires
 print-refused-requires c κs = tt
+
+told-requires-2 : tie.Need-told-requires-2
+told-requires-2 c κs = tt
 
 returns-4 : tie.Need-returns-4
 returns-4 c = search needs
@@ -108,6 +114,8 @@ answer-validate-spec =
     knit-validate-requires
     slice-aggregate-write-all
     write-all-requires
+    told-requires
     returns-3
     print-refused-requires
+    told-requires-2
     returns-4)
