@@ -529,9 +529,10 @@ def _lend_image(image: Image) -> tuple[Union[bytes, ctypes.Array], int]:
     object, so that a view of one is copied, once."""
     if not isinstance(image, (bytes, bytearray, memoryview)):
         raise TypeError(f"an image must be bytes, a bytearray or a memoryview, not {type(image).__name__}")
-    view = memoryview(image)
     if isinstance(image, bytes):
-        return image, view.nbytes
+        # A subclass may have another length and other views than the bytes that are lent.
+        return image, bytes.__len__(image)
+    view = memoryview(image)
     if view.readonly or not view.c_contiguous:
         return view.tobytes(), view.nbytes
     return _lend_bytes("an image", view)

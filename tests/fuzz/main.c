@@ -1,6 +1,7 @@
 /*
  * fuzz SEED SECONDS: calls the C boundary with arbitrary bytes, sizes and settings for so long, and holds every call to what
  * document 01 and the header promise.
+ * fuzz SEED --cases COUNT: the same with so many cases, however long they take.
  * fuzz SEED --case NUMBER: makes that case again, with its input printed first.
  *
  * The exit status is 0 if nothing was found, 1 if something was, and 2 for wrong use or where the fuzzer itself can't go on.
@@ -15,6 +16,7 @@
 
 #include <errno.h>
 #include <inttypes.h>
+#include <math.h>
 #include <stdlib.h>
 #include <string.h>
 #include <time.h>
@@ -24,7 +26,7 @@
 #define GENERATION 131072
 
 #define PROGRESS_SECONDS 10
-#define COMPLETE_SECONDS 20 /* in this time every answer must have occurred */
+#define COMPLETE_CASES 200000 /* among so many every answer must have occurred, however slow the machine is */
 
 static uint64_t seed;
 static struct input input;
@@ -59,11 +61,11 @@ static double seconds_now(void)
     return (double)now.tv_sec + (double)now.tv_nsec / 1e9;
 }
 
-static int run_for(double seconds)
+static int run_for(double seconds, uint64_t count)
 {
     double start = seconds_now(), told = start, now = start;
     uint64_t number;
-    for (number = 0; now - start < seconds; number++) {
+    for (number = 0; number < count && now - start < seconds; number++) {
         begin_case(number);
         check_case();
         now = seconds_now();
@@ -76,7 +78,7 @@ static int run_for(double seconds)
     printf("fuzz: seed %" PRIu64 ", %" PRIu64 " cases, %" PRIu64 " calls, %.0f seconds, corpus %lu, nothing wrong\n", seed, number,
         calls_made(), now - start, (unsigned long)corpus_size());
     tell_tally();
-    return seconds < COMPLETE_SECONDS || all_occurred() ? 0 : 1;
+    return number < COMPLETE_CASES || all_occurred(number) ? 0 : 1;
 }
 
 static int run_case(uint64_t chosen)
@@ -109,12 +111,15 @@ static uint64_t number_of(const char *text)
 
 int main(int argc, char **argv)
 {
-    if (argc != 3 && (argc != 4 || strcmp(argv[2], "--case") != 0)) {
-        fprintf(stderr, "fuzz: usage: fuzz SEED SECONDS, or fuzz SEED --case NUMBER\n");
+    int is_case = argc == 4 && strcmp(argv[2], "--case") == 0;
+    if (argc != 3 && !is_case && (argc != 4 || strcmp(argv[2], "--cases") != 0)) {
+        fprintf(stderr, "fuzz: usage: fuzz SEED SECONDS, fuzz SEED --cases COUNT, or fuzz SEED --case NUMBER\n");
         return 2;
     }
     seed = number_of(argv[1]);
     make_arenas();
     start_watch(seed, tell_case);
-    return argc == 3 ? run_for((double)number_of(argv[2])) : run_case(number_of(argv[3]));
+    if (is_case)
+        return run_case(number_of(argv[3]));
+    return argc == 3 ? run_for((double)number_of(argv[2]), UINT64_MAX) : run_for(HUGE_VAL, number_of(argv[3]));
 }

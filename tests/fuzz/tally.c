@@ -36,20 +36,20 @@ void tell_tally(void)
     tell("statuses", statuses, STATUSES);
 }
 
-static int occurred(const char *name, const uint64_t *counts, uint64_t i)
+static int occurred(const char *name, const uint64_t *counts, uint64_t i, uint64_t cases)
 {
     if (counts[i] == 0)
-        printf("fuzz: %s %llu never occurred\n", name, (unsigned long long)i);
+        printf("fuzz: %s %llu never occurred in %llu cases\n", name, (unsigned long long)i, (unsigned long long)cases);
     return counts[i] > 0;
 }
 
-int all_occurred(void)
+int all_occurred(uint64_t cases)
 {
     int all = 1;
     uint64_t i;
     for (i = 0; i < NUMBERS; i++)
-        all &= i == KNIT_TOO_LONG || occurred("answer", numbers, i);
+        all &= i == KNIT_TOO_LONG || occurred("answer", numbers, i, cases);
     for (i = 0; i < STATUSES; i++)
-        all &= occurred("status", statuses, i);
+        all &= occurred("status", statuses, i, cases);
     return all;
 }

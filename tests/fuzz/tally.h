@@ -13,7 +13,7 @@ void count_status(uint64_t status);
 /* Prints how often each number and each status occurred. */
 void tell_tally(void);
 
-/* Whether every answer of the C boundary occurred; says which did not. */
-int all_occurred(void);
+/* Whether every answer of the C boundary occurred in so many cases; says which did not. */
+int all_occurred(uint64_t cases);
 
 #endif

@@ -9,7 +9,8 @@
 #include <sys/time.h>
 #include <unistd.h>
 
-#define STUCK_SECONDS 5 /* a call takes milliseconds, since its fuel is bounded */
+/* Fuel bounds how long a call takes: most take microseconds, and a loop of calls into 65,535 registers about half a second. */
+#define STUCK_SECONDS 5
 #define STACK_BYTES 65536
 
 static uint64_t seed;

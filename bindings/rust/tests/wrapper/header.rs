@@ -1,6 +1,6 @@
 //! The names and numbers of the C header are those of the wrapper.
 
-use std::collections::HashMap;
+use std::collections::BTreeMap;
 
 use knitcauldron::{Frames, Status, Trap, Value, FRAME_WORDS};
 
@@ -8,13 +8,45 @@ use crate::refusals::one_of_each;
 
 const HEADER: &str = include_str!("../../../../include/knitcauldron.h");
 
-/// What the header defines as numbers, by their names without `KNIT_`.
-fn defined() -> HashMap<&'static str, u64> {
+/// Numbers that are neither a status nor a kind nor a refusal of the wrapper's; TOO_LONG is the runner's.
+const OTHERS: [&str; 10] = [
+    "ADMITTED",
+    "ANSWER_WORDS",
+    "DONE",
+    "EVENT_ID_BYTES",
+    "FRAME_FIRST_REGISTER",
+    "FRAME_FUNCTION",
+    "FRAME_PLACE",
+    "FRAME_RETURN_REGISTER",
+    "FRAME_WORDS",
+    "TOO_LONG",
+];
+
+/// What the header defines, by their names without `KNIT_`; all of it is numbers.
+fn defined() -> BTreeMap<&'static str, u64> {
     let define = |line: &'static str| {
         let mut words = line.strip_prefix("#define KNIT_")?.split_whitespace();
-        Some((words.next()?, words.next()?.parse().ok()?))
+        let number = |word: &str| word.parse().ok();
+        let row = words.next().zip(words.next().and_then(number));
+        Some(row.unwrap_or_else(|| panic!("no name and number: {line}")))
     };
     HEADER.lines().filter_map(define).collect()
+}
+
+/// The header's names that begin so, without that beginning.
+fn under(prefix: &str) -> BTreeMap<String, u64> {
+    let row = |(name, number): (&str, u64)| Some((name.strip_prefix(prefix)?.to_string(), number));
+    defined().into_iter().filter_map(row).collect()
+}
+
+/// What is left of the header's names is refusals, so that an added one is among them.
+fn refusals() -> BTreeMap<String, u64> {
+    let is_other = |name: &str| {
+        name.starts_with("STATUS_") || name.starts_with("KIND_") || OTHERS.contains(&name)
+    };
+    let mut left = under("");
+    left.retain(|name, _| !is_other(name));
+    left
 }
 
 /// How the header writes a name of Rust.
@@ -29,26 +61,12 @@ fn in_capitals(name: &str) -> String {
     capitals
 }
 
-/// Sees that the header has these names and numbers, and under this prefix no others.
-#[track_caller]
-fn same_table(prefix: &str, ours: &[(String, u64)]) {
-    let defined = defined();
-    for (name, number) in ours {
-        let theirs = defined.get(format!("{prefix}{name}").as_str());
-        assert_eq!(theirs, Some(number), "KNIT_{prefix}{name}");
-    }
-    let theirs = defined.keys().filter(|name| name.starts_with(prefix));
-    assert_eq!(theirs.count(), ours.len(), "KNIT_{prefix}..");
-}
-
 #[test]
 fn refusals_have_the_header_s_names_and_numbers() {
-    let defined = defined();
-    for refusal in one_of_each() {
-        let name = in_capitals(refusal.name());
-        let theirs = defined.get(name.as_str());
-        assert_eq!(theirs, Some(&refusal.number()), "KNIT_{name}");
-    }
+    let ours = one_of_each()
+        .into_iter()
+        .map(|refusal| (in_capitals(refusal.name()), refusal.number()));
+    assert_eq!(ours.collect::<BTreeMap<_, _>>(), refusals());
 }
 
 #[test]
@@ -56,8 +74,8 @@ fn statuses_have_the_header_s_names_and_numbers() {
     let trapped = Trap::ALL.map(|trap| (format!("{trap:?}"), Status::Trapped(trap)));
     let returned = ("Returned".to_string(), Status::Returned);
     let row = |(name, status): (String, Status)| (in_capitals(&name), status.number());
-    let ours: Vec<_> = trapped.into_iter().chain([returned]).map(row).collect();
-    same_table("STATUS_", &ours);
+    let ours = trapped.into_iter().chain([returned]).map(row);
+    assert_eq!(ours.collect::<BTreeMap<_, _>>(), under("STATUS_"));
 }
 
 #[test]
@@ -68,8 +86,8 @@ fn kinds_have_the_header_s_names_and_numbers() {
         let name = text.split(' ').next().unwrap_or_default();
         (name.to_ascii_uppercase(), value.kind())
     };
-    let ours: Vec<_> = (0..=8).map(first).map(row).collect();
-    same_table("KIND_", &ours);
+    let ours = (0..=8).map(first).map(row);
+    assert_eq!(ours.collect::<BTreeMap<_, _>>(), under("KIND_"));
 }
 
 #[test]
