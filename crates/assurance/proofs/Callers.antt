@@ -31,15 +31,17 @@ executor-reliable κs a r e told =
 pub validate-program-admits : ValidateProgramAdmits
 validate-program-admits κs a v e told admitted = sym told ∙ ap verdictNumbers admitted
 
+-- two executions with the same image, depth limit and fuel that neither is refused for room, by what each answered
+pub answers-same : (bytes image : List ℕ) (most depth limit fuel : ℕ) (frames regs frames′ regs′ : List ℕ) (x y : List ℕ) → image ≡ bytes → depth ≡ most → fuel ≡ limit
+    → x ≡ execution form1 unit bytes most limit frames regs .answer → y ≡ execution form1 unit image depth fuel frames′ regs′ .answer → NoRoom x → NoRoom y → y ≡ x
+answers-same bytes image most depth limit fuel frames regs frames′ regs′ x y same-image same-depth same-fuel one other kept served =
+    let two = other ∙ (λ i. execution form1 unit (same-image i) (same-depth i) (same-fuel i) frames′ regs′ .answer) in
+    two ∙ acceptance .answers form1 bytes most limit frames regs frames′ regs′ (subst NoRoom one kept) (subst NoRoom two served) ∙ sym one
+
 pub execute-outcome-same : ExecuteOutcomeSame
 execute-outcome-same κs a r e κt b q f told also image fuel depth kept served =
-    let frames : List ℕ = now (a .1 .1 .0) in
-    let regs : List ℕ = now (a .1 .1 .1 .0) in
-    let frames′ : List ℕ = now (b .1 .1 .0) in
-    let regs′ : List ℕ = now (b .1 .1 .1 .0) in
-    let one = ap (λ (o : Executed). o .answer) told in
-    let two = ap (λ (o : Executed). o .answer) also ∙ (λ i. execution form1 unit (image i) (depth i) (fuel i) frames′ regs′ .answer) in
-    two ∙ acceptance .answers form1 (now (a .0)) (a .1 .0 .«max_call_depth») (a .1 .0 .fuel) frames regs frames′ regs′ (subst NoRoom one kept) (subst NoRoom two served) ∙ sym one
+    answers-same (now (a .0)) (now (b .0)) (a .1 .0 .«max_call_depth») (b .1 .0 .«max_call_depth») (a .1 .0 .fuel) (b .1 .0 .fuel) (now (a .1 .1 .0)) (now (a .1 .1 .1 .0)) (now (b .1 .1 .0)) (now (b .1 .1 .1 .0))
+    _ _ image depth fuel (ap (λ (o : Executed). o .answer) told) (ap (λ (o : Executed). o .answer) also) kept served
 
 -- ---- over the C boundary
 -- the number and the words are those of the answer, with its digest

@@ -5,3 +5,4 @@ pub mod Reliable
 pub mod Callers
 pub mod Named
 pub mod Runner
+pub mod InFrames

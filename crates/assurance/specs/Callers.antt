@@ -19,10 +19,12 @@ use Rattle.image.specs.Program.{decode}
 use Rattle.admission.specs.declared.CoreValidation.the-variants.{Admitted}
 use Rattle.admission.specs.Verdict.{verdict}
 use Rattle.admission.proofs.validate_program.Reads as validate_program
+use Rattle.lent.specs.Records.{wordsOf, recordsOf}
 use Rattle.exec.specs.Price.{unit}
 use Rattle.exec.specs.Execute.{outcomeNumbers, entryState}
 use Rattle.exec.proofs.execute_outcome.Reads as execute_outcome
 use Rattle.exec.proofs.CoreExecutor.execute_outcome.Reads as executor
+use Rattle.firm.specs.Walked.{«tells·exec::in_frames::execute_outcome_in_frames»}
 use Rattle.text.specs.Line.{ran}
 use Rattle.capi.proofs.knit_validate.Reads as knit_validate
 use Rattle.capi.proofs.knit_execute.Reads as knit_execute
@@ -113,6 +115,28 @@ KnitExecuteSame = (κs : _) (a : _) (n : _) (e : _) (κt : _) (b : _) (m : _) (f
     → knit_execute.Learnt κs a n e → knit_execute.Learnt κt b m f
     → now (b .0) ≡ now (a .0) → b .1 .0 ≡ a .1 .0 → b .1 .1 .0 ≡ a .1 .1 .0
     → NoRoom (n ∷ []) → NoRoom (m ∷ []) → (m ≡ n) × (now (f .1 .1 .1 .1 .1 .0) ≡ now (e .1 .1 .1 .1 .1 .0))
+
+-- ---- frame records as structs
+-- the same is so of a call over records, said of the records' words
+abbrev pub InFramesReliable : Type 0
+InFramesReliable = (κs : _) (a : _) (r : _) (e : _) → «tells·exec::in_frames::execute_outcome_in_frames» κs a r e
+    → Reliable (now (a .0)) (a .1 .0 .«max_call_depth») (a .1 .0 .fuel) (wordsOf (now (a .1 .1 .0))) (now (a .1 .1 .1 .0)) (outcomeNumbers r)
+
+-- so are the numbers of two such calls, in whatever memory
+abbrev pub InFramesIndependent : Type 0
+InFramesIndependent = (κs : _) (a : _) (r : _) (e : _) (κt : _) (b : _) (q : _) (f : _)
+    → «tells·exec::in_frames::execute_outcome_in_frames» κs a r e → «tells·exec::in_frames::execute_outcome_in_frames» κt b q f
+    → now (b .0) ≡ now (a .0) → b .1 .0 .fuel ≡ a .1 .0 .fuel → b .1 .0 .«max_call_depth» ≡ a .1 .0 .«max_call_depth»
+    → NoRoom (outcomeNumbers r) → NoRoom (outcomeNumbers q) → outcomeNumbers q ≡ outcomeNumbers r
+
+-- a call with words, any number of them, and one with the records that they hold, otherwise the same: the same numbers, refusals
+-- included, the same registers at exit, and the records at exit are the words at exit, read four at a time
+abbrev pub InFramesSame : Type 0
+InFramesSame = (κs : _) (a : _) (r : _) (e : _) (κt : _) (b : _) (q : _) (f : _)
+    → execute_outcome.Learnt κs a r e → «tells·exec::in_frames::execute_outcome_in_frames» κt b q f
+    → now (b .0) ≡ now (a .0) → b .1 .0 .fuel ≡ a .1 .0 .fuel → b .1 .0 .«max_call_depth» ≡ a .1 .0 .«max_call_depth»
+    → now (b .1 .1 .0) ≡ recordsOf (now (a .1 .1 .0)) → now (b .1 .1 .1 .0) ≡ now (a .1 .1 .1 .0)
+    → (outcomeNumbers q ≡ outcomeNumbers r) × (now (f .1 .1 .0) ≡ recordsOf (now (e .1 .1 .0))) × (now (f .1 .1 .1 .0) ≡ now (e .1 .1 .1 .0))
 
 -- ---- event identifiers
 -- two calls that write, with a lesson of 32 bits and a digest of 64: the first 25 bytes are equal exactly when both numbers are

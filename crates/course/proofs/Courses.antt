@@ -18,6 +18,7 @@ use Rattle.exec.specs.Lent.{State, state, topAt}
 use Rattle.exec.specs.Step.{Stepped, stepped, stops, nextInstr, step, isPast, Inside}
 use Rattle.exec.specs.Run.{Final, final, later, onward, pastEnd, outOfFuel, costAt, runFor, run}
 use Rattle.exec.proofs.Runs.{later-zero, later-later, onward-same, for-past, for-dry, for-step, enough}
+use Rattle.exec.proofs.Outer.{going}
 use Rattle.course.specs.Course.{ahead, next, after, GoesOn, Leads, charged, Stop, Course}
 use Rattle.course.specs.Course.Stop.{past, dry, acts}
 use Rattle.course.proofs.Cases.{step-cases}
@@ -32,10 +33,6 @@ endCode RegisterRoom = 12
 -- ---- a step that ends the run writes nothing
 abbrev Quiet : State → Stepped → Type 0
 Quiet s o = (e : Ending) → o .answer ≡ Ends e → o ≡ stops s (Ends e)
-
--- two answers told apart
-going : (d : ℕ) (e : Ending) → Go d ≡ Ends e → ⊥
-going d e q = subst GoesOn q tt
 
 pub ends-quietly : (p : Program) (most : ℕ) (s : State) → Quiet s (step p most s)
 ends-quietly p most s =

@@ -9,7 +9,8 @@ use lib.ListN.{length, getD, set, length-set}
 use lib.Seq.{sets, getD-set-same, getD-set-other}
 use Rattle.instr.specs.declared.Instr.{Instr}
 use Rattle.exec.specs.declared.frame.Top.{Top}
-use Rattle.exec.specs.Lent.{recordOf, functionWord, placeWord, dstWord, firstWord}
+use Rattle.lent.specs.Records.{recordOf}
+use Rattle.exec.specs.Lent.{functionWord, placeWord, dstWord, firstWord}
 use Rattle.exec.specs.Step.{pushedFrames}
 use Rattle.exec.proofs.Lists.{getD-sets-below, getD-sets-in}
 

@@ -11,7 +11,8 @@ use Rattle.exec.specs.declared.Ending.the-variants.{Returned, Trapped, FrameRoo
 use Rattle.exec.specs.declared.Step.{Step}
 use Rattle.exec.specs.declared.Step.the-variants.{Go, Ends}
 use Rattle.exec.specs.Price.{Price, unit}
-use Rattle.exec.specs.Lent.{frameWords, State, state, topAt}
+use Rattle.lent.specs.Records.{frameWords}
+use Rattle.exec.specs.Lent.{State, state, topAt}
 use Rattle.exec.specs.Step.{stops, step, Inside}
 use Rattle.exec.specs.Run.{Final, costAt}
 use Rattle.exec.specs.Begun.{begun}

@@ -44,10 +44,6 @@ module _ (s : List ℕ) where
     header-some k l = rw q at l
 
   module _ (W : WellFormed form1 s) (k : ℕ) (h : k < headerOf s .functions) where
-    -- its record is among the bytes
-    pub record-room : 24 + 16 * k + 16 ≤ length s
-    record-room = omega (arith, W .size)
-
     module _ (f : FunctionRecord) (e : f ≡ functionNo s k) where
       pub regs-are : f .regs ≡ regsOf (decode form1 s) k
       regs-are = rw e (sym (regs-in form1 s k h))
@@ -96,7 +92,7 @@ module _ (p : Program) (fr rg : List ℕ) (d : ℕ) (t : Top) (g : Ready p fr (l
     pub at-inside : t .place < lengthOf p (t .function)
     at-inside = rw e (a .inside)
 
-    step-left : (most : ℕ) → step p most (state fr rg d) ≡ left p most (state fr rg d) (topOf p fr d) (codeOf p (topOf p fr d .function) (topOf p fr d .place))
+    pub step-left : (most : ℕ) → step p most (state fr rg d) ≡ left p most (state fr rg d) (topOf p fr d) (codeOf p (topOf p fr d .function) (topOf p fr d .place))
     unfolding step acted
     step-left most = rw (a .leaves)
 

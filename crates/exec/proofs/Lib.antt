@@ -12,3 +12,7 @@ pub mod Charged
 pub mod Standing
 pub mod Entry
 pub mod Whole
+pub mod Windows
+pub mod Seen
+pub mod Advanced
+pub mod Entering

@@ -56,10 +56,13 @@ module _ (s : List ℕ) where
     unfolding execution
     ends-fault f e = rw (← e, ← fault-unfine f)
 
+    pub fine-run : [] ≡ imageFault form1 s → ended (entered (decode form1 s) unit most fuel fr rg) ≡ execution form1 unit s most fuel fr rg
+    unfolding execution
+    fine-run e = sym (rw (← e))
+
     pub ends-run : [] ≡ imageFault form1 s → (o : CoreOutcome) (what : Ending) (used : ℕ) (fr′ rg′ : List ℕ) → o ≡ outcomeOf what used
         → final what used fr′ rg′ ≡ entered (decode form1 s) unit most fuel fr rg → executed (outcomeNumbers o) fr′ rg′ ≡ execution form1 unit s most fuel fr rg
-    unfolding execution
-    ends-run e o what used fr′ rg′ a q = ap (λ (x : CoreOutcome). executed (outcomeNumbers x) fr′ rg′) a ∙ (ap ended q ∙ sym (rw (← e)))
+    ends-run e o what used fr′ rg′ a q = ap (λ (x : CoreOutcome). executed (outcomeNumbers x) fr′ rg′) a ∙ (ap ended q ∙ fine-run e)
 
 -- ---- a trap by itself
 abbrev alone : List ℕ → List ℕ

@@ -1,4 +1,5 @@
--- A burst: what the running frame does by itself, up to the first instruction that leaves it, a trap, its end or the end of the fuel.
+-- A burst: what the running frame does by itself, up to the first instruction that leaves it, a trap, its end or the end of the fuel;
+-- and a turn: a burst and that instruction.
 -- The promises of this crate's public functions do not mention it. The inner loop is proved against it, and proofs/Stretches joins it
 -- to the run.
 use Prim.Native.Nat.{ℕ, zero, suc, _+_, _*_, _-_, _≤_, _<_}
@@ -7,6 +8,7 @@ use mathlib.Core.List.{List}
 use lib.Dec.{leb, ltb}
 use lib.ListN.{length}
 use Rattle.basis.specs.Choice.{pick}
+use Rattle.runtime.specs.declared.CoreTrap.the-variants.{InvalidPc, FuelExceeded}
 use Rattle.image.specs.Program.{Program}
 use Rattle.image.specs.Parts.{functionsOf, regsOf, lengthOf, codeOf}
 use Rattle.straight.specs.declared.Went.{Went}
@@ -15,9 +17,13 @@ use Rattle.straight.specs.Straight.{straight}
 use Rattle.exec.specs.declared.frame.Top.{Top}
 use Rattle.exec.specs.declared.burst.Why.{Why}
 use Rattle.exec.specs.declared.burst.Why.the-variants.{Past, Dry, Fails, Leaves}
+use Rattle.exec.specs.declared.Ending.the-variants.{Trapped}
+use Rattle.exec.specs.declared.Step.{Step}
+use Rattle.exec.specs.declared.Step.the-variants.{Ends}
 use Rattle.exec.specs.Price.{Price}
-use Rattle.exec.specs.Lent.{frameWords, functionWord, firstWord, part, State, topOf, topAt}
-use Rattle.exec.specs.Step.{moved}
+use Rattle.lent.specs.Records.{frameWords}
+use Rattle.exec.specs.Lent.{functionWord, firstWord, part, State, state, topOf, topAt}
+use Rattle.exec.specs.Step.{moved, step}
 
 -- why it stopped, where, with how much fuel left, and the registers. An instruction that traps or leaves is charged
 pub record Halted : Type 0 where
@@ -65,6 +71,30 @@ unfoldable pub stretch : Program → Price → ℕ → State → Paused
 stretch p price fuel s =
     let t = topAt p s in
     landing s t (burst p price (t .function) fuel fuel (t .place) (part (s .regs) (t .first) (t .limit)))
+
+-- ---- a turn: the burst of the running frame, and the instruction at which it is left
+pub record Turned : Type 0 where
+  pub left : ℕ
+  pub answer : Step
+  pub frames : List ℕ
+  pub regs : List ℕ
+
+abbrev pub turned : ℕ → Step → List ℕ → List ℕ → Turned
+turned left answer frames regs = record { left = left; answer = answer; frames = frames; regs = regs }
+
+-- where the burst stopped, with m units left: an end, or Call or Ret, which is charged and acts now
+abbrev pub acting : Program → ℕ → ℕ → Why → ℕ → List ℕ → List ℕ → Turned
+acting p most d Past m frames regs = turned m (Ends (Trapped InvalidPc)) frames regs
+acting p most d Dry m frames regs = turned m (Ends (Trapped FuelExceeded)) frames regs
+acting p most d (Fails t) m frames regs = turned m (Ends (Trapped t)) frames regs
+acting p most d Leaves m frames regs =
+    let o = step p most (state frames regs d) in
+    turned m (o .answer) (o .frames) (o .regs)
+
+unfoldable pub turn : Program → Price → ℕ → ℕ → State → Turned
+turn p price most fuel s =
+    let h = stretch p price fuel s in
+    acting p most (s .depth) (h .why) (h .left) (h .frames) (h .regs)
 
 -- ---- what holds of the lent words where the machine works
 -- record k is of a function of the program, and its registers are among the n lent ones

@@ -23,12 +23,16 @@ use Rattle.image.specs.Program.{Program, decode}
 use Rattle.image.specs.Parts.{functionsOf, regsOf}
 use Rattle.exec.specs.declared.Ending.{Ending}
 use Rattle.exec.specs.declared.Ending.the-variants as ending
+use Rattle.exec.specs.declared.Step.{Step}
+use Rattle.exec.specs.declared.Step.the-variants.{Go, Ends}
 use Rattle.exec.specs.declared.CoreOutcome.{CoreOutcome}
 use Rattle.exec.specs.declared.CoreOutcome.the-variants.{Done, Image, FrameRoom, RegisterRoom}
 use Rattle.exec.specs.declared.CoreExecution.{CoreExecution}
 use Rattle.exec.specs.declared.CoreExecution.the-variants as settling
 use Rattle.exec.specs.Price.{Price}
-use Rattle.exec.specs.Lent.{recordOf, frameWords, unitWord, State, state}
+use Rattle.lent.specs.Records.{recordOf, frameWords}
+use Rattle.exec.specs.Lent.{unitWord, State, state}
+use Rattle.exec.specs.Step.{Stepped, stepped, goes}
 use Rattle.exec.specs.Run.{Final, final, run}
 
 -- ---- answers as numbers
@@ -61,13 +65,23 @@ abbrev pub entryState : Program → List ℕ → List ℕ → State
 entryState p frames regs =
     state (sets frames 0 (recordOf (p .entry) 0 0 0)) (sets regs 0 (replicate (regsOf p (p .entry)) unitWord)) 1
 
--- an entry that does not exist comes before any room; where the frame is refused nothing is written and no fuel used
+-- it comes as the first frame; an entry that does not exist comes before any room, and where the frame is refused nothing is written
+unfoldable pub made : Program → List ℕ → List ℕ → Stepped
+made p frames regs =
+    pick (leb (functionsOf p) (p .entry)) (stepped (Ends (ending.Trapped InvalidFunction)) frames regs)
+    (pick (ltb (length frames) frameWords) (stepped (Ends ending.FrameRoom) frames regs)
+    (pick (ltb (length regs) (regsOf p (p .entry))) (stepped (Ends ending.RegisterRoom) frames regs)
+    (goes (entryState p frames regs))))
+
+-- and it runs; where it is refused no fuel is used
+abbrev pub started : Step → List ℕ → List ℕ → (State → Final) → Final
+started (Go d) frames regs rest = rest (state frames regs d)
+started (Ends e) frames regs rest = final e 0 frames regs
+
 unfoldable pub entered : Program → Price → ℕ → ℕ → List ℕ → List ℕ → Final
 entered p price most fuel frames regs =
-    pick (leb (functionsOf p) (p .entry)) (final (ending.Trapped InvalidFunction) 0 frames regs)
-    (pick (ltb (length frames) frameWords) (final ending.FrameRoom 0 frames regs)
-    (pick (ltb (length regs) (regsOf p (p .entry))) (final ending.RegisterRoom 0 frames regs)
-    (run p price most fuel (entryState p frames regs))))
+    let o = made p frames regs in
+    started (o .answer) (o .frames) (o .regs) (λ s. run p price most fuel s)
 
 -- ---- the whole: an answer and the lent words
 pub record Executed : Type 0 where

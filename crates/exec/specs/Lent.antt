@@ -1,22 +1,15 @@
 -- The lent words, and the frames that they hold.
 use Prim.Native.Nat.{ℕ, _+_, _*_, _-_}
-use mathlib.Core.List.{List, [], _∷_, _++_}
+use mathlib.Core.List.{List, _++_}
 use lib.ListN.{getD, take, drop}
 use Rattle.value.specs.Value.{unitKind, register}
 use Rattle.image.specs.Program.{Program}
 use Rattle.image.specs.Parts.{regsOf}
+use Rattle.lent.specs.declared.FrameRecord.{FrameRecord}
+use Rattle.lent.specs.Records.{frameWords}
 use Rattle.exec.specs.declared.frame.Top.{Top}
 
 -- ---- records
--- a frame's record: its function, the place of its next instruction, the register of the frame below that takes what it returns (0
--- for the entry frame), and the index of its first register
-abbrev pub recordOf : ℕ → ℕ → ℕ → ℕ → List ℕ
-recordOf function place dst first = function ∷ place ∷ dst ∷ first ∷ []
-
--- as many words; fewer, left over at the end of the lent words, are no record
-abbrev pub frameWords : ℕ
-frameWords = 4
-
 -- the words of record k
 abbrev pub functionWord : List ℕ → ℕ → ℕ
 functionWord frames k = getD frames (frameWords * k) 0
@@ -29,6 +22,11 @@ dstWord frames k = getD frames (frameWords * k + 2) 0
 
 abbrev pub firstWord : List ℕ → ℕ → ℕ
 firstWord frames k = getD frames (frameWords * k + 3) 0
+
+-- all four as a struct
+abbrev pub recordIn : List ℕ → ℕ → FrameRecord
+recordIn frames k =
+    record { function = functionWord frames k; place = placeWord frames k; dst = dstWord frames k; first = firstWord frames k }
 
 -- ---- registers
 -- a register of a frame that begins

@@ -6,3 +6,4 @@ pub mod Begun
 pub mod Config
 pub mod Execute
 pub mod Burst
+pub mod InFrames

@@ -22,7 +22,8 @@ use Rattle.exec.specs.declared.Step.{Step}
 use Rattle.exec.specs.declared.Step.the-variants.{Go, Ends}
 use Rattle.exec.specs.declared.StepFound.{StepFound}
 use Rattle.exec.specs.declared.StepFound.the-variants.{NoFrame, Took}
-use Rattle.exec.specs.Lent.{recordOf, frameWords, functionWord, dstWord, firstWord, unitWord, part, put, State, state, topOf, topAt}
+use Rattle.lent.specs.Records.{recordOf, frameWords}
+use Rattle.exec.specs.Lent.{functionWord, dstWord, firstWord, unitWord, part, put, State, state, topOf, topAt}
 
 -- ---- what a step answers, and the lent words after it
 pub record Stepped : Type 0 where

@@ -3,6 +3,7 @@ use image::record::FUNCTION_SIZE;
 use image::record::FunctionRecord;
 use image::record::HEADER_SIZE;
 use image::record::function_at;
+use lent::FrameRecord;
 ghost use mathlib.Core.Path.{_≡_};
 ghost use Prim.Native.Nat.{_+_, _*_, _-_, _≤_, _<_};
 ghost use lib.ListN.{length, set, take, drop, replicate};
@@ -10,7 +11,8 @@ ghost use lib.Seq.{sets};
 ghost use Rattle.image.specs.Records.{form1, headerOf, functionNo};
 ghost use Rattle.image.specs.WellFormed.{WellFormed};
 ghost use Rattle.image.specs.Program.{decode};
-ghost use Rattle.exec.specs.Lent.{recordOf, functionWord, unitWord, topOf};
+ghost use Rattle.lent.specs.Records.{recordOf, recordWords};
+ghost use Rattle.exec.specs.Lent.{recordIn, functionWord, unitWord, topOf};
 
 pub const FRAME_WORDS: usize = 4;
 
@@ -60,16 +62,43 @@ pub fn move_to(frames: &mut [u64], d: usize, place: u64)
     frames[FRAME_WORDS * (d - 1) + 1] = place;
 }
 
+// Record k.
+pub fn load_record(frames: &[u64], k: usize) -> FrameRecord
+    requires { ⌜ 4 * (k + 1) ≤ length (now frames) ⌝ }
+    ensures { λ r. ⌜ r ≡ recordIn (now (frames .entry)) k ⌝ }
+{
+    let at = FRAME_WORDS * k;
+    FrameRecord {
+        function: frames[at],
+        place: frames[at + 1],
+        dst: frames[at + 2],
+        first: frames[at + 3],
+    }
+}
+
+pub fn store_record(frames: &mut [u64], k: usize, r: FrameRecord)
+    requires { ⌜ 4 * (k + 1) ≤ length (now frames) ⌝ }
+    ensures { λ _. ⌜ now (frames .exit) ≡ sets (now (frames .entry)) (4 * k) (recordWords r) ⌝ }
+{
+    let at = FRAME_WORDS * k;
+    frames[at] = r.function;
+    frames[at + 1] = r.place;
+    frames[at + 2] = r.dst;
+    frames[at + 3] = r.first;
+}
+
 // The record of a frame that begins, on top of d others.
 pub fn begin_record(frames: &mut [u64], d: usize, function: usize, dst: usize, first: usize)
     requires { ⌜ 4 * (d + 1) ≤ length (now frames) ⌝ }
     ensures { λ r. ⌜ now (frames .exit) ≡ sets (now (frames .entry)) (4 * d) (recordOf function 0 dst first) ⌝ }
 {
-    let at = FRAME_WORDS * d;
-    frames[at] = function as u64;
-    frames[at + 1] = 0;
-    frames[at + 2] = dst as u64;
-    frames[at + 3] = first as u64;
+    let r = FrameRecord {
+        function: function as u64,
+        place: 0,
+        dst: dst as u64,
+        first: first as u64,
+    };
+    store_record(frames, d, r);
 }
 
 // n registers from another place, which is below.

@@ -1,8 +1,8 @@
 // Source document 000, its executor: one step, the run, `execute_outcome` and `execute`, over frames and registers that the caller
 // lends. The program is an image, so its faults come first.
 //
-// A run is bursts of one frame, and Call and Ret between them. The definition that all of it is proved against knows nothing of that:
-// it does step after step.
+// A run is turns: bursts of one frame, and Call and Ret between them. The definition that all of it is proved against knows nothing of
+// that: it does step after step.
 use burst::Why;
 use config::CoreConfig;
 use frame::FRAME_WORDS;
@@ -27,13 +27,15 @@ ghost use Rattle.exec.specs.Price.{unit};
 ghost use Rattle.exec.specs.Lent.{state};
 ghost use Rattle.exec.specs.Step.{stepped, standsAt, stands, round, found, stepFound};
 ghost use Rattle.exec.specs.Run.{final, run};
-ghost use Rattle.exec.specs.Execute.{outcomeNumbers, valueIn, outcomeOf, entered, executed, execution, byStatus, settled, executionNumbers, trapAlone};
+ghost use Rattle.exec.specs.Execute.{outcomeNumbers, valueIn, outcomeOf, made, entered, executed, execution, byStatus, settled, executionNumbers, trapAlone};
 ghost use Rattle.exec.specs.Burst.{Ready, Good};
 
 mod burst;
 pub mod config;
 mod frame;
+pub mod in_frames;
 mod leave;
+mod turn;
 
 // How a run ends: with a register word, with a trap, or without room for a frame.
 pub enum Ending {
@@ -78,7 +80,7 @@ pub enum CoreExecution {
     RegisterRoom(u64),
 }
 
-// The run of the entry frame, which stands: stretch after stretch, and Call or Ret between them.
+// The run of the entry frame, which stands: turn after turn.
 fn run(image: &[u8], frames: &mut [u64], registers: &mut [u64], most: usize, fuel: u64) -> Ended
     requires { ⌜ WellFormed form1 (now image) ⌝ }
     requires { ⌜ Good (decode form1 (now image)) (now frames) (length (now registers)) 1 ⌝ }
@@ -87,40 +89,42 @@ fn run(image: &[u8], frames: &mut [u64], registers: &mut [u64], most: usize, fue
     let mut d = 1;
     let mut left = fuel;
     loop {
-        let h = burst::stretch(image, frames, registers, d, left);
-        left = h.left;
+        let t = turn::turn(image, frames, registers, d, most, left);
+        left = t.left;
         let used = fuel - left;
-        let why = h.why;
-        let top = h.top;
-        match why {
-            Why::Past => {
-                return Ended {
-                    what: Ending::Trapped(CoreTrap::InvalidPc),
-                    used,
-                };
+        let step = t.step;
+        match step {
+            Step::Go(n) => {
+                d = n;
             }
-            Why::Dry => {
-                return Ended {
-                    what: Ending::Trapped(CoreTrap::FuelExceeded),
-                    used,
-                };
+            Step::Ends(e) => {
+                return Ended { what: e, used };
             }
-            Why::Fails(t) => {
-                return Ended {
-                    what: Ending::Trapped(t),
-                    used,
-                };
-            }
-            Why::Leaves => match leave::leave(image, frames, registers, d, most, top) {
-                Step::Go(n) => {
-                    d = n;
-                }
-                Step::Ends(e) => {
-                    return Ended { what: e, used };
-                }
-            },
         }
     }
+}
+
+// The entry frame is made, as the first of all frames.
+fn make(image: &[u8], frames: &mut [u64], registers: &mut [u64]) -> Step
+    requires { ⌜ WellFormed form1 (now image) ⌝ }
+    ensures { λ r. ⌜ stepped r (now (frames .exit)) (now (registers .exit)) ≡ made (decode form1 (now (image .entry))) (now (frames .entry)) (now (registers .entry)) ⌝ }
+{
+    let h = header_of(image);
+    let entry = h.entry as usize;
+    if h.functions as usize <= entry {
+        return Step::Ends(Ending::Trapped(CoreTrap::InvalidFunction));
+    }
+    if frames.len() < FRAME_WORDS {
+        return Step::Ends(Ending::FrameRoom);
+    }
+    let f = frame::function_of(image, entry);
+    let n = f.regs as usize;
+    if registers.len() < n {
+        return Step::Ends(Ending::RegisterRoom);
+    }
+    frame::begin_record(frames, 0, entry, 0, 0);
+    frame::clear(registers, 0, n);
+    Step::Go(1)
 }
 
 // The entry frame, and the run.
@@ -128,31 +132,10 @@ fn enter(image: &[u8], frames: &mut [u64], registers: &mut [u64], most: usize, f
     requires { ⌜ WellFormed form1 (now image) ⌝ }
     ensures { λ r. ⌜ final (r .what) (r .used) (now (frames .exit)) (now (registers .exit)) ≡ entered (decode form1 (now (image .entry))) unit most fuel (now (frames .entry)) (now (registers .entry)) ⌝ }
 {
-    let h = header_of(image);
-    let entry = h.entry as usize;
-    if h.functions as usize <= entry {
-        return Ended {
-            what: Ending::Trapped(CoreTrap::InvalidFunction),
-            used: 0,
-        };
+    match make(image, frames, registers) {
+        Step::Go(_) => run(image, frames, registers, most, fuel),
+        Step::Ends(e) => Ended { what: e, used: 0 },
     }
-    if frames.len() < FRAME_WORDS {
-        return Ended {
-            what: Ending::FrameRoom,
-            used: 0,
-        };
-    }
-    let f = frame::function_of(image, entry);
-    let n = f.regs as usize;
-    if registers.len() < n {
-        return Ended {
-            what: Ending::RegisterRoom,
-            used: 0,
-        };
-    }
-    frame::begin_record(frames, 0, entry, 0, 0);
-    frame::clear(registers, 0, n);
-    run(image, frames, registers, most, fuel)
 }
 
 // The value that a word holds. In a run every register holds one.

@@ -1,6 +1,6 @@
 -- Every public function of the engine, by its own contract: just one answer, and one content of what was lent, meets it. Assumes nothing.
 use Prim.Native.Nat.{ℕ}
-use mathlib.Core.Path.{sym, ap, _∙_}
+use mathlib.Core.Path.{refl, sym, ap, _∙_}
 use mathlib.Core.List.{List, [], _∷_}
 use denote.Ref.{now}
 use Rattle.runtime.proofs.Unique.{profile-unique, charge-unique}
@@ -9,11 +9,14 @@ use Rattle.image.proofs.Unique.{check-unique}
 use Rattle.admission.proofs.Unique.{verdict-unique}
 use Rattle.text.proofs.Unique.{id-unique}
 use Rattle.straight.specs.Straight.{Local}
+use Rattle.lent.specs.declared.FrameRecord.{FrameRecord}
+use Rattle.lent.proofs.Words.{words-unique}
 use Rattle.exec.specs.Step.{Found}
 use Rattle.exec.specs.Execute.{Executed}
 use Rattle.text.specs.Identifier.{Identified}
 use Rattle.text.specs.Line.{Replied}
 use Rattle.capi.specs.Boundary.{Crossing, Naming}
+use Rattle.firm.specs.Walked.{«tells·runtime::FuelMeter::consume», «tells·lent::record_at», «tells·lent::put_record», «tells·exec::in_frames::execute_outcome_in_frames»}
 use Rattle.basis.proofs.wrapping_mul_u64.Reads as «basis::wrapping_mul_u64»
 use Rattle.basis.proofs.bytes.join2.Reads as «basis::bytes::join2»
 use Rattle.basis.proofs.bytes.join4.Reads as «basis::bytes::join4»
@@ -315,6 +318,21 @@ pub «one·exec::config::CoreConfig::engine_policy» : (κs : _) (a : _) → One
 
 pub «one·exec::config::CoreConfig::with_engine_policy» : (κs : _) (a : _) → One («exec::config::CoreConfig::with_engine_policy».Learnt κs a)
 «one·exec::config::CoreConfig::with_engine_policy» κs a x y e f p q = p ∙ sym q
+
+-- ---- the functions that are proved by hand
+pub «one·runtime::FuelMeter::consume» : (κs : _) (a : _) → OneAnd (λ e. now (e .0)) («tells·runtime::FuelMeter::consume» κs a)
+«one·runtime::FuelMeter::consume» κs a x y e f p q = (charge-unique x y (p .0 ∙ sym (q .0)), λ i. record { remaining = (p .1 ∙ sym (q .1)) i })
+
+pub «one·lent::record_at» : (κs : _) (a : _) → OneAnd (λ e. now (e .0)) («tells·lent::record_at» κs a)
+«one·lent::record_at» κs a x y e f p q = (p .0 ∙ sym (q .0), p .1 ∙ sym (q .1))
+
+pub «one·lent::put_record» : (κs : _) (a : _) → OneAnd (λ e. now (e .0)) («tells·lent::put_record» κs a)
+«one·lent::put_record» κs a x y e f p q = (refl, p ∙ sym q)
+
+pub «one·exec::in_frames::execute_outcome_in_frames» : (κs : _) (a : _) → OneHeld {L = List FrameRecord × List ℕ} HeldOutcome (λ e. (now (e .1 .1 .0), now (e .1 .1 .1 .0))) («tells·exec::in_frames::execute_outcome_in_frames» κs a)
+«one·exec::in_frames::execute_outcome_in_frames» κs a x y e f h k p q =
+    let same = p ∙ sym q in
+    (outcome-unique x y h k (ap (λ (o : Executed). o .answer) same), λ i. (words-unique _ _ (ap (λ (o : Executed). o .frames) same) i, ap (λ (o : Executed). o .regs) same i))
 
 -- ---- text: identifiers and lines
 pub «one·text::event::event_id» : (κs : _) (a : _) → OneAnd (λ e. now (e .1 .1 .0) ∷ []) («text::event::event_id».Learnt κs a)

@@ -1,8 +1,6 @@
 -- How firm a contract is. `tells x e` is what a contract tells of the answer x and of the parameters at exit e, for given arguments,
--- as the toolchain reads it off the function's own text.
-use Prim.Native.Nat.{ℕ}
+-- as the toolchain reads it off the function's own text; for a function that it does not cover, as specs/Walked has it.
 use mathlib.Core.Path.{_≡_}
-use mathlib.Core.List.{List}
 use Rattle.value.specs.declared.result.CoreResult.{CoreResult}
 use Rattle.value.specs.Value.{Held}
 use Rattle.exec.specs.declared.CoreOutcome.{CoreOutcome}
@@ -14,14 +12,14 @@ use Rattle.exec.specs.declared.CoreExecution.the-variants as settling
 abbrev pub One : {X E : Type 0} → (X → E → Type 0) → Type 0
 One {X} {E} tells = (x y : X) (e f : E) → tells x e → tells y f → x ≡ y
 
--- and one content of each lent slice
-abbrev pub OneAnd : {X E : Type 0} → (E → List (List ℕ)) → (X → E → Type 0) → Type 0
-OneAnd {X} {E} lent tells = (x y : X) (e f : E) → tells x e → tells y f → (x ≡ y) × (lent e ≡ lent f)
+-- and one content of all that is lent
+abbrev pub OneAnd : {X E L : Type 0} → (E → L) → (X → E → Type 0) → Type 0
+OneAnd {X} {E} {L} lent tells = (x y : X) (e f : E) → tells x e → tells y f → (x ≡ y) × (lent e ≡ lent f)
 
 -- so among the answers that hold only what their types can: the contract speaks of a value by its kind and its payload of 32 bits,
 -- and those do not tell a number from one that no i32 is
-abbrev pub OneHeld : {X E : Type 0} → (X → Type 0) → (E → List (List ℕ)) → (X → E → Type 0) → Type 0
-OneHeld {X} {E} Fits lent tells = (x y : X) (e f : E) → Fits x → Fits y → tells x e → tells y f → (x ≡ y) × (lent e ≡ lent f)
+abbrev pub OneHeld : {X E L : Type 0} → (X → Type 0) → (E → L) → (X → E → Type 0) → Type 0
+OneHeld {X} {E} {L} Fits lent tells = (x y : X) (e f : E) → Fits x → Fits y → tells x e → tells y f → (x ≡ y) × (lent e ≡ lent f)
 
 -- the values of a result are those that the engine's types hold
 abbrev pub HeldResult : CoreResult → Type 0

@@ -1,1 +1,2 @@
 pub mod Firm
+pub mod Walked

@@ -53,7 +53,7 @@ module _ (p : Program) (price : Price) (fair : Fair price) (most fuel : ℕ) whe
 
     entry-roomy : p .entry < functionsOf p → Roomy p most (entryState p fr rg)
     entry-roomy known = record {
-      good = entry-stands p price 0 0 fr rg (p .entry) refl known entry-record (regsOf p (p .entry)) refl entry-words;
+      good = entry-stands p fr rg (p .entry) refl known entry-record (regsOf p (p .entry)) refl entry-words;
       low = one;
       firsts = λ k l. let e : k ≡ 0 = omega arith in rw (e, entry-first fr (p .entry) entry-record) (omega arith);
       room = record { frames = simp length-set (enough .frames); regs = rw length-sets (enough .regs) };

@@ -9,7 +9,8 @@ use lib.Seq.{length-sets}
 use Rattle.image.specs.Program.{Program}
 use Rattle.exec.specs.declared.Ending.{Ending}
 use Rattle.exec.specs.Price.{Price, Fair}
-use Rattle.exec.specs.Lent.{frameWords, State}
+use Rattle.lent.specs.Records.{frameWords}
+use Rattle.exec.specs.Lent.{State}
 use Rattle.exec.specs.Step.{pushedFrames, step}
 use Rattle.exec.specs.Run.{run}
 use Rattle.exec.specs.Execute.{entryState, entered}

@@ -5,7 +5,7 @@ use lib.ListN.{length}
 use Rattle.image.specs.Program.{Function, Program}
 use Rattle.exec.specs.declared.Ending.{Ending}
 use Rattle.exec.specs.declared.Ending.the-variants.{Returned, Trapped, FrameRoom, RegisterRoom}
-use Rattle.exec.specs.Lent.{frameWords}
+use Rattle.lent.specs.Records.{frameWords}
 
 -- a record for each frame that the depth limit allows; the entry frame is there at any limit
 unfoldable pub records : ℕ → ℕ

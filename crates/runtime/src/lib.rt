@@ -1,7 +1,7 @@
 // Source document 001: traps, the admission profile and the fuel meter.
 //
-// Rust's `Result` is an enum for each kind of answer, its `&'static str` for a field the field's number from 1, and
-// `FuelMeter::consume(&mut self)` a charge that takes the meter by value and hands it back.
+// Rust's `Result` is an enum for each kind of answer, its `&'static str` for a field the field's number from 1.
+// The rule of `FuelMeter::consume(&mut self)` stands in `charge`, by value; `consume` is thin over it.
 ghost use mathlib.Core.Path.{_≡_};
 ghost use lib.Dec.{eqb};
 ghost use Rattle.runtime.specs.Trap.{trapCode};
@@ -137,7 +137,7 @@ impl FuelMeter {
         Self { remaining }
     }
 
-    // Rust's `consume`, by value: a refused charge empties the meter.
+    // The rule of a charge, by value: a refused charge empties the meter.
     pub fn charge(self, amount: u64) -> Charged
         ensures { λ r. ⌜ (chargeNumbers (r .answer) ≡ chargeFault (self .remaining) amount) × (r .meter .remaining ≡ left (self .remaining) amount) ⌝ }
     {
@@ -154,6 +154,15 @@ impl FuelMeter {
             },
             answer: Charge::Paid,
         }
+    }
+
+    // The Rust's own form: the caller's meter is charged.
+    pub fn consume(&mut self, amount: u64) -> Charge
+        ensures { λ r. ⌜ (chargeNumbers r ≡ chargeFault (now (self .entry) .remaining) amount) × (now (self .exit) .remaining ≡ left (now (self .entry) .remaining) amount) ⌝ }
+    {
+        let charged = FuelMeter::charge(*self, amount);
+        *self = charged.meter;
+        charged.answer
     }
 
     pub fn remaining(self) -> u64

@@ -109,7 +109,7 @@ module _ (p : Program) (price : Price) (fair : Fair price) (most fuel : ℕ) (su
   module _ (fr rg : List ℕ) (known : p .entry < functionsOf p) (room : 4 ≤ length fr) (space : regsOf p (p .entry) ≤ length rg) where
     entry-linked : Linked p (entryState p fr rg)
     entry-linked = record {
-      good = entry-stands p price 0 0 fr rg (p .entry) refl known room (regsOf p (p .entry)) refl space;
+      good = entry-stands p fr rg (p .entry) refl known room (regsOf p (p .entry)) refl space;
       places = λ k l. let e : k ≡ 0 = omega arith in rw (e, entry-place fr (p .entry) room) (omega arith);
       dsts = λ k l. absurd (not-suc-le-zero (le-of-suc-le-suc l));
     }

@@ -9,7 +9,7 @@ use lib.Seq.{sets}
 use Rattle.basis.specs.Choice.{pick}
 use Rattle.image.specs.Records.{form1}
 use Rattle.exec.specs.Price.{unit}
-use Rattle.exec.specs.Lent.{frameWords}
+use Rattle.lent.specs.Records.{frameWords}
 use Rattle.exec.specs.Config.{defaultConfig}
 use Rattle.exec.specs.Execute.{Executed, executed, execution}
 use Rattle.text.specs.Ascii.{ascii}

@@ -17,7 +17,8 @@ use Rattle.image.specs.Parts.{regsOf}
 use Rattle.exec.specs.declared.Ending.{Ending}
 use Rattle.exec.specs.declared.Ending.the-variants.{Returned, Trapped, FrameRoom, RegisterRoom}
 use Rattle.exec.specs.Price.{Price, Fair}
-use Rattle.exec.specs.Lent.{recordOf, unitWord}
+use Rattle.lent.specs.Records.{recordOf}
+use Rattle.exec.specs.Lent.{unitWord}
 use Rattle.exec.specs.Run.{Final, final, run}
 use Rattle.exec.specs.Execute.{outcomeNumbers, outcomeOf, entryState, entered, executed, ended, execution}
 use Rattle.course.specs.Course.{Refused, Made}

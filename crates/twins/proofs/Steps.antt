@@ -21,7 +21,8 @@ use Rattle.exec.specs.declared.frame.Top.{Top}
 use Rattle.exec.specs.declared.Ending.{Ending}
 use Rattle.exec.specs.declared.Ending.the-variants.{Returned, Trapped, FrameRoom, RegisterRoom}
 use Rattle.exec.specs.declared.Step.the-variants.{Go, Ends}
-use Rattle.exec.specs.Lent.{recordOf, functionWord, dstWord, firstWord, unitWord, part, State, state, topOf}
+use Rattle.lent.specs.Records.{recordOf}
+use Rattle.exec.specs.Lent.{functionWord, dstWord, firstWord, unitWord, part, State, state, topOf}
 use Rattle.exec.specs.Step.{Stepped, stops, goes, moved, landed, tooDeep, windowFits, pushedFrames, pushedRegs, called, handed, returned, left, acted, nextInstr, step}
 use Rattle.exec.specs.Burst.{Window}
 use Rattle.exec.proofs.Parts.{length-part}

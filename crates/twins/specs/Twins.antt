@@ -7,7 +7,8 @@ use lib.ListN.{length, getD}
 use Rattle.image.specs.Program.{Program}
 use Rattle.image.specs.Parts.{regsOf}
 use Rattle.exec.specs.Price.{Price}
-use Rattle.exec.specs.Lent.{frameWords, functionWord, firstWord, State}
+use Rattle.lent.specs.Records.{frameWords}
+use Rattle.exec.specs.Lent.{functionWord, firstWord, State}
 use Rattle.exec.specs.declared.Step.the-variants.{Ends}
 use Rattle.exec.specs.Step.{stops, step}
 use Rattle.exec.specs.Run.{Final, later, costAt, run}

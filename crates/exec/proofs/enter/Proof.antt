@@ -1,43 +1,20 @@
-use denote.Ref.{now}
-use Rattle.exec.specs.Price.{unit}
-use Rattle.exec.proofs.Facts.{header-entry, header-none, header-some, unknown, regs-are}
-use Rattle.exec.proofs.Entry.{enter-none, enter-frames, enter-registers, enter-run, entry-stands}
+use mathlib.Core.Path.{_∙_}
+use Rattle.exec.proofs.Entry.{made-alone, enter-refused, enter-run}
 use borrow.Author.Needs.{needs}
 use Rattle.exec.proofs.enter.Statement.{statement}
 use Rattle.exec.proofs.enter.Tie as tie
 
-header-of-requires : tie.Need-header-of-requires
-header-of-requires c κs = search needs
+make-requires : tie.Need-make-requires
+make-requires c κs = search needs
 
-cast-entry : tie.Need-cast-entry
-cast-entry c = search needs
-
-cast-if1 : tie.Need-cast-if1
-cast-if1 c = search needs
-
-returns : tie.Need-returns
-returns c = enter-none _ _ _ _ _ _ _ (header-entry _ _ (c .before .before .before .header-of .ensures)) (header-none _ _ (c .before .before .before .header-of .ensures) _ (c .if1 .taken))
-
-returns-2 : tie.Need-returns-2
-returns-2 c = enter-frames _ _ _ _ _ _ _ (header-entry _ _ (c .before .before .before .before .header-of .ensures)) (unknown _ _ (header-some _ _ (c .before .before .before .before .header-of .ensures) _ (c .before .if1 .left))) (c .if2 .taken)
-
-function-of-requires : tie.Need-function-of-requires
-function-of-requires c κs = (c .before .before .before .before .before .before .before .before .pre, header-some _ _ (c .before .before .before .before .header-of .ensures) _ (c .before .if1 .left))
-
-cast-n : tie.Need-cast-n
-cast-n c = search needs
-
-returns-3 : tie.Need-returns-3
-returns-3 c = enter-registers _ _ _ _ _ _ _ (header-entry _ _ (c .before .before .before .before .before .before .before .header-of .ensures)) (unknown _ _ (header-some _ _ (c .before .before .before .before .before .before .before .header-of .ensures) _ (c .before .before .before .before .if1 .left))) (c .before .before .before .if2 .left) _ (regs-are _ (c .before .before .before .before .before .before .before .before .before .before .before .pre) _ (header-some _ _ (c .before .before .before .before .before .before .before .header-of .ensures) _ (c .before .before .before .before .if1 .left)) _ (c .before .before .function-of .ensures)) (c .if3 .taken)
-
-begin-record-requires : tie.Need-begin-record-requires
-begin-record-requires c κs = search needs
-
-clear-requires : tie.Need-clear-requires
-clear-requires c κs = search needs
+enum-told : tie.Need-enum-told
+enum-told c = search needs
 
 run-requires : tie.Need-run-requires
-run-requires c κs = (c .before .before .before .before .before .before .before .before .before .before .before .before .before .before .before .before .before .before .before .before .before .pre, rw (c .before .before .before .before .clear .ensures, c .before .before .before .before .before .before .before .before .begin-record .ensures) (entry-stands _ unit 0 0 (now (c .before .before .before .before .before .before .before .before .before .before .before .before .before .before .before .before .before .before .before .before .before .args .frames)) (now (c .before .before .before .before .before .before .before .before .before .before .before .before .before .before .before .before .before .before .before .before .before .args .registers)) _ (header-entry _ _ (c .before .before .before .before .before .before .before .before .before .before .before .before .before .before .before .before .before .header-of .ensures)) (unknown _ _ (header-some _ _ (c .before .before .before .before .before .before .before .before .before .before .before .before .before .before .before .before .before .header-of .ensures) _ (c .before .before .before .before .before .before .before .before .before .before .before .before .before .before .if1 .left))) (c .before .before .before .before .before .before .before .before .before .before .before .before .before .if2 .left) _ (regs-are _ (c .before .before .before .before .before .before .before .before .before .before .before .before .before .before .before .before .before .before .before .before .before .pre) _ (header-some _ _ (c .before .before .before .before .before .before .before .before .before .before .before .before .before .before .before .before .before .header-of .ensures) _ (c .before .before .before .before .before .before .before .before .before .before .before .before .before .before .if1 .left)) _ (c .before .before .before .before .before .before .before .before .before .before .before .before .function-of .ensures)) (c .before .before .before .before .before .before .before .before .before .before .if3 .left)))
+run-requires c κs = (c .before .before .before .before .before .before .before .before .before .before .before .before .before .before .pre, made-alone _ _ _ _ _ _ (rw (c .before .before .enum-told .given .1) at (c .before .before .before .before .before .before .before .before .make .ensures)) .0)
+
+enum-known-e : tie.Need-enum-known-e
+enum-known-e c = search needs
 
 same-length : tie.Need-same-length
 same-length c = search needs
@@ -45,24 +22,29 @@ same-length c = search needs
 same-length-2 : tie.Need-same-length-2
 same-length-2 c = search needs
 
-returns-4 : tie.Need-returns-4
-returns-4 c = enter-run _ _ _ _ _ _ _ (header-entry _ _ (c .before .before .before .before .before .before .before .before .before .before .before .before .before .before .before .before .before .before .before .before .before .before .header-of .ensures)) (unknown _ _ (header-some _ _ (c .before .before .before .before .before .before .before .before .before .before .before .before .before .before .before .before .before .before .before .before .before .before .header-of .ensures) _ (c .before .before .before .before .before .before .before .before .before .before .before .before .before .before .before .before .before .before .before .if1 .left))) (c .before .before .before .before .before .before .before .before .before .before .before .before .before .before .before .before .before .before .if2 .left) _ (regs-are _ (c .before .before .before .before .before .before .before .before .before .before .before .before .before .before .before .before .before .before .before .before .before .before .before .before .before .before .pre) _ (header-some _ _ (c .before .before .before .before .before .before .before .before .before .before .before .before .before .before .before .before .before .before .before .before .before .before .header-of .ensures) _ (c .before .before .before .before .before .before .before .before .before .before .before .before .before .before .before .before .before .before .before .if1 .left)) _ (c .before .before .before .before .before .before .before .before .before .before .before .before .before .before .before .before .before .function-of .ensures)) (c .before .before .before .before .before .before .before .before .before .before .before .before .before .before .before .if3 .left) _ (rw (c .before .before .before .before .before .before .before .before .before .clear .ensures, c .before .before .before .before .before .before .before .before .before .before .before .before .before .begin-record .ensures) at (c .before .before .before .before .run .ensures))
+returns : tie.Need-returns
+returns c = c .before .before .before .before .run .ensures ∙ enter-run _ _ _ _ _ _ _ _ _ (rw (c .before .before .before .before .before .before .before .enum-told .given .1) at (c .before .before .before .before .before .before .before .before .before .before .before .before .before .make .ensures))
+
+same-length-3 : tie.Need-same-length-3
+same-length-3 c = search needs
+
+same-length-4 : tie.Need-same-length-4
+same-length-4 c = search needs
+
+returns-2 : tie.Need-returns-2
+returns-2 c = enter-refused _ _ _ _ _ _ _ _ _ (rw (c .before .e .given .1) at (c .before .before .before .before .before .before .before .make .ensures))
 
 pub enter-spec : {M : Type 1} → statement M
 enter-spec =
     tie.close
     (tie.spec
-    header-of-requires
-    cast-entry
-    cast-if1
-    returns
-    returns-2
-    function-of-requires
-    cast-n
-    returns-3
-    begin-record-requires
-    clear-requires
+    make-requires
+    enum-told
     run-requires
+    enum-known-e
     same-length
     same-length-2
-    returns-4)
+    returns
+    same-length-3
+    same-length-4
+    returns-2)

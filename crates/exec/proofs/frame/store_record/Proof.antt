@@ -4,8 +4,8 @@ use native.Mathlib.Omega.{arith}
 use lib.ListN.{length-set}
 use Rattle.exec.proofs.Lists.{record-sets}
 use borrow.Author.Needs.{needs}
-use Rattle.exec.proofs.frame.begin_record.Statement.{statement}
-use Rattle.exec.proofs.frame.begin_record.Tie as tie
+use Rattle.exec.proofs.frame.store_record.Statement.{statement}
+use Rattle.exec.proofs.frame.store_record.Tie as tie
 
 mul-at : tie.Need-mul-at
 mul-at c = search needs
@@ -47,10 +47,10 @@ same-length : tie.Need-same-length
 same-length c = search needs
 
 returns : tie.Need-returns
-returns c = record-sets (now (c .args .frames)) (4 * c .args .d) (c .args .function) 0 (c .args .dst) (c .args .first)
+returns c = record-sets (now (c .args .frames)) (4 * c .args .k) (c .args .r .function) (c .args .r .place) (c .args .r .dst) (c .args .r .first)
 
-pub begin-record-spec : {M : Type 1} → statement M
-begin-record-spec =
+pub store-record-spec : {M : Type 1} → statement M
+store-record-spec =
     tie.close
     (tie.spec
     mul-at

@@ -1,0 +1,2 @@
+mod Slices
+mod Stopped
