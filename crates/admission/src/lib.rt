@@ -1,5 +1,7 @@
 // Source document 000, its `validate_program`: whether a program may run at all under a profile. The program is an image, so its
 // faults come first.
+#![tactic(auto)]
+
 ghost use Rattle.std.specs.Prelude.{◌≡◌};
 ghost use Rattle.basis.specs.Answers.{or_else, is_fine};
 ghost use Rattle.image.specs.Records.{form1};
@@ -14,7 +16,7 @@ mod function;
 mod operand;
 
 // The Rust's `Result<(), CoreValidationError>`. Where a verdict is about a function, the function's number comes first.
-#[derive(Drop)]
+#[derive(Clone, Copy)]
 pub enum CoreValidation {
     Admitted,
     Image(ImageFault),

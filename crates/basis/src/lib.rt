@@ -1,5 +1,7 @@
 // What every layer above leans on: the choice by a test, answers as numbers and the laws of both (in specs/ and proofs/), numbers in
 // bytes, and the product modulo 2^64, which the language does not supply.
+#![tactic(auto)]
+
 ghost use Rattle.std.specs.Prelude.{◌≡◌, ◌*◌, ◌%◌, ◌^◌};
 
 pub mod bytes;

@@ -1,5 +1,7 @@
 // The functions that programs in C, Rust and Python call; include/knitcauldron.h declares them. Each takes its arguments apart, calls
 // one proved function and writes the answer's words.
+#![tactic(auto)]
+
 ghost use Rattle.std.specs.Prelude.{◌≡◌};
 ghost use Rattle.value.specs.Digest.{digested};
 ghost use Rattle.image.specs.Image.{fault_numbers};
@@ -21,7 +23,7 @@ use value::digest::digest_words;
 use value::result::CoreResult;
 
 // An answer's number and its five values, zeros after those that it has.
-#[derive(Drop)]
+#[derive(Clone, Copy)]
 pub struct Answer {
     pub number: u64,
     pub first: u64,

@@ -18,7 +18,7 @@ use straight::{Went, straight};
 
 // Why a burst stopped: at the function's end, without fuel for the next instruction, by a trap, or at a Call or Ret, which is charged
 // and has not acted yet.
-#[derive(Drop)]
+#[derive(Clone, Copy)]
 pub enum Why {
     Past,
     Dry,
@@ -26,7 +26,7 @@ pub enum Why {
     Leaves,
 }
 
-#[derive(Drop)]
+#[derive(Clone, Copy)]
 pub struct Halt {
     pub why: Why,
     pub place: usize,
@@ -111,7 +111,7 @@ fn burst(image: &[u8], function: usize, win: &mut [u64], from: usize, fuel: u64)
 }
 
 // A burst that stopped, and its frame then.
-#[derive(Drop)]
+#[derive(Clone, Copy)]
 pub struct Pause {
     pub why: Why,
     pub left: u64,

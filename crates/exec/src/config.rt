@@ -4,13 +4,13 @@ ghost use Rattle.exec.specs.Config.{default_config, with_policy};
 
 use runtime::CoreAdmissionProfile;
 
-#[derive(Drop)]
+#[derive(Clone, Copy)]
 pub enum CoreEnginePolicy {
     DeterministicReference,
     Auto,
 }
 
-#[derive(Drop)]
+#[derive(Clone, Copy)]
 pub struct CoreConfig {
     pub fuel: u64,
     pub max_call_depth: u16,

@@ -13,7 +13,7 @@ use lent::FrameRecord;
 pub const FRAME_WORDS: usize = 4;
 
 // A frame of the machine, with as many registers as its function has.
-#[derive(Drop)]
+#[derive(Clone, Copy)]
 pub struct Top {
     pub function: usize,
     pub place: usize,

@@ -27,7 +27,7 @@ const WINDOW_WORDS: usize = 12;
 // A run over records. The record of the running frame is held here, and stored among the lent ones at the end of each of its turns. The
 // outcome counts once the machine runs no more. `below` is the index of the record under it, so that whoever reads that record has no
 // sum to do.
-#[derive(Drop)]
+#[derive(Clone, Copy)]
 struct Machine {
     running: bool,
     outcome: CoreOutcome,
@@ -41,7 +41,7 @@ struct Machine {
 }
 
 // The machine after a turn, and the record to store.
-#[derive(Drop)]
+#[derive(Clone, Copy)]
 struct Moved {
     machine: Machine,
     at: usize,

@@ -3,6 +3,8 @@
 //
 // A run is turns: bursts of one frame, and Call and Ret between them. The definition that all of it is proved against knows nothing of
 // that: it does step after step.
+#![tactic(auto)]
+
 ghost use Rattle.std.specs.Prelude.{◌≡◌, ◌+◌, ◌*◌, ◌-◌, ◌<◌, length};
 ghost use Rattle.value.specs.Value.{value_at};
 ghost use Rattle.image.specs.Records.{form1};
@@ -32,7 +34,7 @@ mod leave;
 mod turn;
 
 // How a run ends: with a register word, with a trap, or without room for a frame.
-#[derive(Drop)]
+#[derive(Clone, Copy)]
 pub enum Ending {
     Returned(u64),
     Trapped(CoreTrap),
@@ -41,28 +43,28 @@ pub enum Ending {
 }
 
 // After a step there are so many frames, or the run is over.
-#[derive(Drop)]
+#[derive(Clone, Copy)]
 pub enum Step {
     Go(usize),
     Ends(Ending),
 }
 
 // A step of any lent words. NoFrame: no frame stands at this depth.
-#[derive(Drop)]
+#[derive(Clone, Copy)]
 pub enum StepFound {
     NoFrame,
     Took(Step),
 }
 
 // A run's end and the fuel that it used.
-#[derive(Drop)]
+#[derive(Clone, Copy)]
 pub struct Ended {
     pub what: Ending,
     pub used: u64,
 }
 
 // What an execution answers: a result, or a refusal. Those for room say how much fuel was used.
-#[derive(Drop)]
+#[derive(Clone, Copy)]
 pub enum CoreOutcome {
     Done(CoreResult),
     Image(ImageFault),
@@ -71,7 +73,7 @@ pub enum CoreOutcome {
 }
 
 // The same with a trap by itself, as the Rust's `Result<CoreResult, CoreTrap>` has it.
-#[derive(Drop)]
+#[derive(Clone, Copy)]
 pub enum CoreExecution {
     Done(CoreResult),
     Trap(CoreTrap),
@@ -282,7 +284,7 @@ pub fn step_once(
 }
 
 // An executor is its configuration.
-#[derive(Drop)]
+#[derive(Clone, Copy)]
 pub struct CoreExecutor {
     pub config: CoreConfig,
 }

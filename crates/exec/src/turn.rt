@@ -12,7 +12,7 @@ use crate::{Ending, Step, burst, leave};
 use runtime::CoreTrap;
 
 // After a turn: the fuel that it left, and what it came to.
-#[derive(Drop)]
+#[derive(Clone, Copy)]
 pub struct After {
     pub left: u64,
     pub step: Step,

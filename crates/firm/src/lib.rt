@@ -1,1 +1,2 @@
 // How firm the contracts are. Theorems, without code: specs/ has the statements, proofs/ their proofs.
+#![tactic(auto)]

@@ -1,4 +1,6 @@
 // The program image: its records, and the check of bytes that are said to be one. The Rust has no image; this one is document 01's.
+#![tactic(auto)]
+
 ghost use Rattle.std.specs.Prelude.{◌≡◌};
 ghost use Rattle.basis.specs.Answers.{first_of};
 ghost use Rattle.image.specs.Records.{form1, form1_instr, instr_place};
@@ -11,7 +13,7 @@ pub mod record;
 use record::{FUNCTION_SIZE, HEADER_SIZE, Header, INSTR_SIZE, function_at, header_of, instr_at};
 
 // Why bytes are not an image: refusals 1 to 5. The last two say which function or instruction.
-#[derive(Drop)]
+#[derive(Clone, Copy)]
 pub enum ImageFault {
     Short,
     Form,
@@ -20,7 +22,7 @@ pub enum ImageFault {
     Instruction(usize),
 }
 
-#[derive(Drop)]
+#[derive(Clone, Copy)]
 pub enum ImageCheck {
     Fine,
     Fault(ImageFault),

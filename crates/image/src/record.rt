@@ -14,7 +14,7 @@ pub const FUNCTION_SIZE: usize = 16;
 pub const INSTR_SIZE: usize = 12;
 
 // The first bytes: counts of functions and instructions, offsets of their tables, the image's length.
-#[derive(Drop)]
+#[derive(Clone, Copy)]
 pub struct Header {
     pub form: u16,
     pub entry: u16,
@@ -26,7 +26,7 @@ pub struct Header {
 }
 
 // The function's name, its registers, and which of all instructions are its own.
-#[derive(Drop)]
+#[derive(Clone, Copy)]
 pub struct FunctionRecord {
     pub name: u32,
     pub regs: u16,

@@ -1,6 +1,8 @@
 // One instruction of a program, as it is decoded from an image: the opcode's number of 000 and the five fields of its record.
 // Which fields an opcode uses, and for what, is the image's business.
-#[derive(Drop)]
+#![tactic(auto)]
+
+#[derive(Clone, Copy)]
 pub struct Instr {
     pub op: u8,
     pub small: u8,

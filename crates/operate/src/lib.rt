@@ -2,6 +2,8 @@
 //
 // One function decides for the opcodes 3 to 50, by ranges of opcodes with equal operands; the functions below it are small and
 // take the opcode along. Called with the opcode as a literal, the compiler folds them into the code of that opcode alone.
+#![tactic(auto)]
+
 ghost use Rattle.std.specs.Prelude.{◌≡◌, ◌≤◌, ◌<◌};
 ghost use Rattle.operate.specs.Parts.{rule_kind, on_one, on_two, on_load};
 ghost use Rattle.operate.specs.Opcodes.{rule_of};
@@ -17,7 +19,7 @@ pub mod read;
 use read::Read;
 
 // What an instruction computes. Opcodes that compute no value, and numbers that are no opcode, answer NoValue.
-#[derive(Drop)]
+#[derive(Clone, Copy)]
 pub enum Outcome {
     Value(u64),
     Trap(CoreTrap),

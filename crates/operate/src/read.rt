@@ -8,7 +8,7 @@ use crate::Outcome;
 use runtime::CoreTrap;
 use value::word::{KIND_BOOL, KIND_QUAD, KIND_UNIT};
 
-#[derive(Drop)]
+#[derive(Clone, Copy)]
 pub enum Read {
     Payload(u32),
     Fault(CoreTrap),

@@ -1,9 +1,11 @@
 // Source document 002, as far as the executor reaches it: the four states of a quad.
+#![tactic(auto)]
+
 ghost use Rattle.std.specs.Prelude.{◌≡◌, ◌<◌};
 ghost use Rattle.std.specs.Int.Bits.{bit_or, bit_and};
 ghost use Rattle.quad.specs.Quad.{quad_bits, state_at, inverse_bits, is_known, is_conflict, is_null};
 
-#[derive(Drop)]
+#[derive(Clone, Copy)]
 pub enum QuadState {
     N,
     F,
@@ -12,7 +14,7 @@ pub enum QuadState {
 }
 
 // What a number of bits stands for: Rust's `Option<QuadState>`.
-#[derive(Drop)]
+#[derive(Clone, Copy)]
 pub enum QuadFound {
     State(QuadState),
     NoState,

@@ -3,7 +3,7 @@ ghost use Rattle.std.specs.Prelude.{◌≤◌, ◌<◌, length};
 ghost use Rattle.replay.specs.Fields.{AtMost};
 
 // A field: a number, a run of minus signs, or neither.
-#[derive(Drop)]
+#[derive(Clone, Copy)]
 pub enum Field {
     Number(u64),
     Missing,
@@ -11,7 +11,7 @@ pub enum Field {
 }
 
 // A field of a line and the place after the space that ends it.
-#[derive(Drop)]
+#[derive(Clone, Copy)]
 pub struct Next {
     pub number: u64,
     pub at: usize,

@@ -2,7 +2,7 @@
 use libc::STDOUT_FILENO;
 
 // It was answered; it is no case; or its answer could not be written.
-#[derive(Drop)]
+#[derive(Clone, Copy)]
 pub enum Answered {
     Told,
     NoCase,

@@ -3,6 +3,8 @@
 // more than 64 frames or 16,384 registers `too large`. The cases and answers beside this program are made by oracle/make-list.
 //
 // Where standard input cannot be read or standard output cannot be written, the answers end there; standard error says so.
+#![tactic(auto)]
+
 ghost use Rattle.std.specs.Prelude.{◌≤◌, ◌<◌, ◌≡◌, length};
 
 use libc::{EINTR, STDIN_FILENO};
@@ -18,7 +20,7 @@ const LINE_BYTES: usize = 16384;
 
 // The first `held` bytes of the buffer are read and not answered. skip: they belong to a line that is too long and has its answer.
 // go: the input has not ended.
-#[derive(Drop)]
+#[derive(Clone, Copy)]
 struct Stream {
     held: usize,
     skip: bool,

@@ -10,7 +10,7 @@ use operate::Outcome;
 use value::word::{CoreValue, WordFound};
 
 // The operands are the registers of a window of two; one that is not there has an index past it.
-#[derive(Drop)]
+#[derive(Clone, Copy)]
 pub struct Operand {
     pub index: usize,
     pub word: u64,

@@ -1,1 +1,2 @@
 // How much lent memory is enough, for every program. Theorems, without code: specs/ has the statements, proofs/ their proofs.
+#![tactic(auto)]

@@ -2,6 +2,8 @@
 // refused. What the line says of the bytes that were read is proved, `answer`; C's read and write have no contract that speaks of bytes.
 //
 // Where standard input cannot be read or standard output cannot be written, there is no answer; standard error says so.
+#![tactic(auto)]
+
 ghost use Rattle.std.specs.Prelude.{true, ◌≡◌, ◌-◌, ◌≤◌, length, take};
 ghost use Rattle.text.specs.Line.{printed};
 ghost use Rattle.runner.specs.Reading.{Within};
@@ -18,7 +20,7 @@ const REGISTERS: usize = 2048;
 const FRAME_WORDS: usize = 256;
 
 // What one read or write moved.
-#[derive(Drop)]
+#[derive(Clone, Copy)]
 enum Part {
     Bytes(usize),
     End,
@@ -27,14 +29,14 @@ enum Part {
 }
 
 // So many bytes were read; `good` says that no read failed.
-#[derive(Drop)]
+#[derive(Clone, Copy)]
 struct Input {
     count: usize,
     good: bool,
 }
 
 // An image that was read. more: the input has bytes after it.
-#[derive(Drop)]
+#[derive(Clone, Copy)]
 struct Held {
     count: usize,
     more: bool,

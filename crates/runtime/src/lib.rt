@@ -2,12 +2,14 @@
 //
 // Rust's `Result` is an enum for each kind of answer, its `&'static str` for a field the field's number from 1.
 // The rule of `FuelMeter::consume(&mut self)` stands in `charge`, by value; `consume` is thin over it.
+#![tactic(auto)]
+
 ghost use Rattle.std.specs.Prelude.{◌≡◌, eqb};
 ghost use Rattle.runtime.specs.Trap.{trap_code};
 ghost use Rattle.runtime.specs.Profile.{profile_numbers, profile_fault, safe_profile};
 ghost use Rattle.runtime.specs.Fuel.{charge_numbers, charge_fault, left};
 
-#[derive(Drop)]
+#[derive(Clone, Copy)]
 pub enum CoreTrap {
     InvalidPc,
     InvalidRegister,
@@ -41,7 +43,7 @@ impl CoreTrap {
 }
 
 // What a run may use at most. The fields are numbered from 1 in this order.
-#[derive(Drop)]
+#[derive(Clone, Copy)]
 pub struct CoreAdmissionProfile {
     pub max_registers: u16,
     pub max_functions: u16,
@@ -51,7 +53,7 @@ pub struct CoreAdmissionProfile {
 }
 
 // What is wrong with a profile: the number of the first field that is 0, or of the first above its bound.
-#[derive(Drop)]
+#[derive(Clone, Copy)]
 pub enum CoreProfileCheck {
     Valid,
     ZeroLimit(u8),
@@ -118,18 +120,18 @@ impl CoreAdmissionProfile {
     }
 }
 
-#[derive(Drop)]
+#[derive(Clone, Copy)]
 pub struct FuelMeter {
     pub remaining: u64,
 }
 
-#[derive(Drop)]
+#[derive(Clone, Copy)]
 pub enum Charge {
     Paid,
     FuelExceeded,
 }
 
-#[derive(Drop)]
+#[derive(Clone, Copy)]
 pub struct Charged {
     pub meter: FuelMeter,
     pub answer: Charge,

@@ -4,6 +4,8 @@
 // keeps the rule's own contract, and the compiler folds the rule, `operate` in it, at each literal into the code of that opcode
 // alone; matches that follow each other become one jump table. Ten arms stand in a function, because a call in one of more than
 // fifty arms counts as cold and is not folded. `straight` stores in one place for all opcodes, and the machine calls it in one.
+#![tactic(auto)]
+
 ghost use Rattle.std.specs.Prelude.{◌≡◌, ◌≤◌};
 ghost use Rattle.straight.specs.Straight.{storing, branched, asks, local, stored, done, straight};
 
@@ -14,7 +16,7 @@ use runtime::CoreTrap;
 use value::word::KIND_BOOL;
 
 // What an instruction asks for.
-#[derive(Drop)]
+#[derive(Clone, Copy)]
 pub enum Deed {
     Put(u64),
     Next,
@@ -24,7 +26,7 @@ pub enum Deed {
 }
 
 // Where the frame goes on once it is done: at the next place or another, or nowhere.
-#[derive(Drop)]
+#[derive(Clone, Copy)]
 pub enum Went {
     On,
     To(usize),

@@ -6,7 +6,7 @@ use crate::digits::{put_digits, put_word};
 
 pub const EVENT_ID_BYTES: usize = 25;
 
-#[derive(Drop)]
+#[derive(Clone, Copy)]
 pub enum EventId {
     Written,
     IdRoom,

@@ -5,13 +5,13 @@ ghost use Rattle.value.specs.Checked.{signed, payload, checked_i32, checked_u32,
 use runtime::CoreTrap;
 
 // Rust's `Option<i32>` with the trap that stands for `None`.
-#[derive(Drop)]
+#[derive(Clone, Copy)]
 pub enum CheckedI32 {
     Value(i32),
     Trap(CoreTrap),
 }
 
-#[derive(Drop)]
+#[derive(Clone, Copy)]
 pub enum CheckedU32 {
     Value(u32),
     Trap(CoreTrap),

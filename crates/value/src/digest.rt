@@ -5,7 +5,7 @@ ghost use Rattle.value.specs.Digest.{mixed, digested, result_digest};
 use crate::result::CoreResult;
 use basis::wrapping_mul_u64;
 
-#[derive(Drop)]
+#[derive(Clone, Copy)]
 pub struct CoreResultDigest(pub u64);
 
 impl CoreResultDigest {

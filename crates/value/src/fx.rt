@@ -7,17 +7,17 @@ use crate::checked;
 use crate::checked::CheckedI32;
 use runtime::CoreTrap;
 
-#[derive(Drop)]
+#[derive(Clone, Copy)]
 pub struct Fx(pub i32);
 
-#[derive(Drop)]
+#[derive(Clone, Copy)]
 pub enum CheckedFx {
     Value(Fx),
     Trap(CoreTrap),
 }
 
 // How one number stands to another: Rust's `core::cmp::Ordering`.
-#[derive(Drop)]
+#[derive(Clone, Copy)]
 pub enum Ordering {
     Less,
     Equal,

@@ -5,7 +5,7 @@ ghost use Rattle.value.specs.Result.{status_word, returned_with, trapped_with};
 use crate::word::CoreValue;
 use runtime::CoreTrap;
 
-#[derive(Drop)]
+#[derive(Clone, Copy)]
 pub enum CoreStatus {
     Returned,
     Trapped(CoreTrap),
@@ -23,7 +23,7 @@ impl CoreStatus {
     }
 }
 
-#[derive(Drop)]
+#[derive(Clone, Copy)]
 pub struct CoreResult {
     pub status: CoreStatus,
     pub return_value: CoreValue,

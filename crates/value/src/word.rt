@@ -25,16 +25,16 @@ pub const KIND_RECORD: u8 = 7;
 
 pub const KIND_ADT: u8 = 8;
 
-#[derive(Drop)]
+#[derive(Clone, Copy)]
 pub struct TupleRef(pub u32);
 
-#[derive(Drop)]
+#[derive(Clone, Copy)]
 pub struct RecordRef(pub u32);
 
-#[derive(Drop)]
+#[derive(Clone, Copy)]
 pub struct AdtRef(pub u32);
 
-#[derive(Drop)]
+#[derive(Clone, Copy)]
 pub enum CoreValue {
     Unit,
     Quad(QuadState),
@@ -48,7 +48,7 @@ pub enum CoreValue {
 }
 
 // What a register word holds.
-#[derive(Drop)]
+#[derive(Clone, Copy)]
 pub enum WordFound {
     Value(CoreValue),
     NoValue,
