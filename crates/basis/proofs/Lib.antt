@@ -3,7 +3,3 @@ pub mod Ranges
 pub mod First
 pub mod Says
 pub mod Past
-pub mod Again
-pub mod Closing
-pub mod Locals
-pub mod Calls
