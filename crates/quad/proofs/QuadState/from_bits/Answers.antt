@@ -1,0 +1,24 @@
+use borrow.Author.Tests.{ne_eqb}
+use Rattle.quad.specs.Quad.{state_at}
+use Rattle.quad.proofs.QuadState.from_bits.Goals as goal
+
+pub returns-in-0 : goal.returns-in-0
+unfolding state_at
+returns-in-0 c = rw c.in-0.is
+
+pub returns-in-1 : goal.returns-in-1
+unfolding state_at
+returns-in-1 c = rw c.in-1.is
+
+pub returns-in-2 : goal.returns-in-2
+unfolding state_at
+returns-in-2 c = rw c.in-2.is
+
+pub returns-in-3 : goal.returns-in-3
+unfolding state_at
+returns-in-3 c = rw c.in-3.is
+
+pub returns-in_default : goal.returns-in_default
+unfolding state_at
+returns-in_default c =
+    rw (ne_eqb _ 0 c.in_default.in_default-own.rest.0.0.0.1, ne_eqb _ 1 c.in_default.in_default-own.rest.0.0.1, ne_eqb _ 2 c.in_default.in_default-own.rest.0.1, ne_eqb _ 3 c.in_default.in_default-own.rest.1)
