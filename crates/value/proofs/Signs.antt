@@ -1,5 +1,5 @@
 -- Two's complement, and the tests that the machine makes of signed numbers. Assumes nothing.
-use Rattle.core.specs.Prelude.{◌≡◌, ℕ, zero, suc, ◌+◌, ◌-◌, ◌%◌, ◌^◌, ◌<◌, ◌≤◌, true, false, not, ltb, leb, ℤ, pos, negsuc, ◌+ℤ◌, ◌-ℤ◌}
+use Rattle.std.specs.Prelude.{◌≡◌, ℕ, zero, suc, ◌+◌, ◌-◌, ◌%◌, ◌^◌, ◌<◌, ◌≤◌, true, false, not, ltb, leb, ℤ, pos, negsuc, ◌+ℤ◌, ◌-ℤ◌}
 use mathlib.Core.Path.{refl, sym, ap, ◌∙◌}
 use native.Mathlib.Omega.{arith}
 use native.Mathlib.Decide.{dec_lt}
@@ -144,7 +144,7 @@ read_back p h e = rw e (to_z-of_z (signed_fits p h))
 
 -- an i32 that was stored and is read again is the same: alone, and two of them
 pub reads : {A : Type 0} (f : ℤ → A) (z : ℤ) → mag z < 2 ^ 31 → f (to_z w32 (of_z w32 z)) ≡ f z
-reads f z h = ap f (to_z-of_z (record { sfits = h }))
+reads f z h = ap f (to_z-of_z {w = w32} (record { sfits = h }))
 
 pub reads_two : {A : Type 0} (f : ℤ → ℤ → A) (a b : ℤ) → mag a < 2 ^ 31 → mag b < 2 ^ 31
     → f (to_z w32 (of_z w32 a)) (to_z w32 (of_z w32 b)) ≡ f a b

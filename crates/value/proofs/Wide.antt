@@ -1,5 +1,5 @@
 -- Two i32 in 64 bits: what each operation asks of the machine, and what it gives there. Assumes nothing.
-use Rattle.core.specs.Prelude.{◌≡◌, ℕ, zero, suc, ◌+◌, ◌*◌, ◌/◌, ◌^◌, ◌<◌, ◌≤◌, ℤ, pos, negsuc, ◌+ℤ◌, ◌-ℤ◌, ◌*ℤ◌, neg_ℤ}
+use Rattle.std.specs.Prelude.{◌≡◌, ℕ, zero, suc, ◌+◌, ◌*◌, ◌/◌, ◌^◌, ◌<◌, ◌≤◌, ℤ, pos, negsuc, ◌+ℤ◌, ◌-ℤ◌, ◌*ℤ◌, neg_ℤ}
 use native.Mathlib.Omega.{arith}
 use native.Mathlib.Nat.{div-le_self, mul-le-mul}
 use native.Mathlib.Decide.{dec_lt}
@@ -116,7 +116,7 @@ module _ {a b : ℤ} (fa : SFits w32 a) (fb : SFits w32 b) where
   pub fx_product_is : full (shr_z (full (wide a *ℤ wide b)) 65536) ≡ fx_product a b
   fx_product_is =
       rw product_is
-      (to_z-of_z (record { sfits = omega (arith, mag_mul a b (2 ^ 31) (2 ^ 31) fa.sfits fb.sfits, mag_shr (a *ℤ b) 65536) }))
+      (to_z-of_z {w = w64} (record { sfits = omega (arith, mag_mul a b (2 ^ 31) (2 ^ 31) fa.sfits fb.sfits, mag_shr (a *ℤ b) 65536) }))
 
   scaled_small : mag (a *ℤ pos 65536) ≤ 2 ^ 31 * 65537
   scaled_small = mag_mul a (pos 65536) (2 ^ 31) 65537 fa.sfits (omega arith)
@@ -125,7 +125,7 @@ module _ {a b : ℤ} (fa : SFits w32 a) (fb : SFits w32 b) where
   scaled_asks = rw (wide_is fa) (record { sfits = omega (arith, scaled_small) })
 
   scaled_is : full (wide a *ℤ pos 65536) ≡ a *ℤ pos 65536
-  scaled_is = rw (wide_is fa) (to_z-of_z (record { sfits = omega (arith, scaled_small) }))
+  scaled_is = rw (wide_is fa) (to_z-of_z {w = w64} (record { sfits = omega (arith, scaled_small) }))
 
   fx_quotient_fits : SFits w64 (quot_z (a *ℤ pos 65536) b)
   fx_quotient_fits = record { sfits = omega (arith, mag_quot (a *ℤ pos 65536) b, scaled_small) }
@@ -134,4 +134,4 @@ module _ {a b : ℤ} (fa : SFits w32 a) (fb : SFits w32 b) where
   fx_quotient_asks = rw (scaled_is, wide_is fb) fx_quotient_fits
 
   pub fx_quotient_is : full (quot_z (full (wide a *ℤ pos 65536)) (wide b)) ≡ fx_quotient a b
-  fx_quotient_is = rw (scaled_is, wide_is fb) (to_z-of_z fx_quotient_fits)
+  fx_quotient_is = rw (scaled_is, wide_is fb) (to_z-of_z {w = w64} fx_quotient_fits)

@@ -1,6 +1,6 @@
 -- Values and register words, there and back: each value that the types hold has a word of its own, and `value_at` finds it again;
 -- a word at which `value_at` finds a value is that value's word. Assumes nothing.
-use Rattle.core.specs.Prelude.{◌≡◌, ℕ, ◌/◌, ◌%◌, ◌^◌, ◌<◌, ◌≤◌, true, false, eqb}
+use Rattle.std.specs.Prelude.{◌≡◌, ℕ, ◌/◌, ◌%◌, ◌^◌, ◌<◌, ◌≤◌, true, false, eqb}
 use mathlib.Core.Bool as bool
 use mathlib.Core.Path.{refl, sym, ap, ap₂, ◌∙◌}
 use native.Mathlib.Omega.{arith}

@@ -1,5 +1,5 @@
 -- Numbers of 32 bits. Results are numbers of ℤ; one that the type cannot hold traps IntegerOverflow.
-use Rattle.core.specs.Prelude.{ℕ, suc, ◌-◌, ◌^◌, Bool, false, ◌&&◌, ℤ, pos, negsuc, neg_ℤ, ◌==◌, int_div, int_le, nat_lt}
+use Rattle.std.specs.Prelude.{ℕ, suc, ◌-◌, ◌^◌, Bool, false, ◌&&◌, ℤ, pos, negsuc, neg_ℤ, ◌==◌, int_div, int_le, nat_lt}
 use Rattle.basis.specs.Choice.{pick}
 use Rattle.runtime.specs.declared.CoreTrap.TheVariants.{DivisionByZero, IntegerOverflow}
 use Rattle.value.specs.declared.checked.CheckedI32.{CheckedI32}

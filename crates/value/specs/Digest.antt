@@ -1,5 +1,5 @@
 -- The digest of a result.
-use Rattle.core.specs.Prelude.{ℕ, ◌+◌, ◌*◌, ◌%◌, ◌^◌, bit_xor}
+use Rattle.std.specs.Prelude.{ℕ, ◌+◌, ◌*◌, ◌%◌, ◌^◌, bit_xor}
 use Rattle.value.specs.declared.result.CoreResult.{CoreResult}
 use Rattle.value.specs.Result.{status_word}
 use Rattle.value.specs.Value.{kind_of, payload_of}

@@ -1,5 +1,5 @@
 -- Fixed-point numbers, by their raw units of 1/65,536.
-use Rattle.core.specs.Prelude.{ℕ, ℤ, pos, ◌*ℤ◌, int_div, int_lt}
+use Rattle.std.specs.Prelude.{ℕ, ℤ, pos, ◌*ℤ◌, int_div, int_lt}
 use Rattle.std.specs.Int.Signed.{shr_z}
 use Rattle.basis.specs.Choice.{pick}
 use Rattle.runtime.specs.declared.CoreTrap.TheVariants.{DivisionByZero}

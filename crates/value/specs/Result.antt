@@ -1,5 +1,5 @@
 -- How a run ends.
-use Rattle.core.specs.Prelude.{ℕ, ◌+◌}
+use Rattle.std.specs.Prelude.{ℕ, ◌+◌}
 use Rattle.runtime.specs.declared.CoreTrap.{CoreTrap}
 use Rattle.runtime.specs.Trap.{trap_code}
 use Rattle.value.specs.declared.word.CoreValue.{CoreValue}

@@ -1,5 +1,5 @@
 -- Values and the words that hold them in a register: kind times 2^32 plus a payload of 32 bits.
-use Rattle.core.specs.Prelude.{◌≡◌, ℕ, ◌+◌, ◌*◌, ◌/◌, ◌%◌, ◌^◌, ◌<◌, true, false, ◌==◌}
+use Rattle.std.specs.Prelude.{◌≡◌, ℕ, ◌+◌, ◌*◌, ◌/◌, ◌%◌, ◌^◌, ◌<◌, true, false, ◌==◌}
 use Rattle.std.specs.Int.Signed.{mag}
 use Rattle.basis.specs.Choice.{pick}
 use Rattle.quad.specs.declared.QuadFound.{QuadFound}

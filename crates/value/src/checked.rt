@@ -1,5 +1,5 @@
 // Rust's checked operations on i32 and u32, and its casts between them. Each widens, so that nothing wraps before the test.
-ghost use Rattle.core.specs.Prelude.{◌≡◌, ℤ, pos, ◌+ℤ◌, ◌-ℤ◌, ◌*ℤ◌};
+ghost use Rattle.std.specs.Prelude.{◌≡◌, ℤ, pos, ◌+ℤ◌, ◌-ℤ◌, ◌*ℤ◌};
 ghost use Rattle.value.specs.Checked.{signed, payload, checked_i32, checked_u32, divided_i32, divided_u32};
 
 use runtime::CoreTrap;

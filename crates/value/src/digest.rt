@@ -1,5 +1,5 @@
 // The digest that event identifiers carry.
-ghost use Rattle.core.specs.Prelude.{◌≡◌};
+ghost use Rattle.std.specs.Prelude.{◌≡◌};
 ghost use Rattle.value.specs.Digest.{mixed, digested, result_digest};
 
 use crate::result::CoreResult;

@@ -1,5 +1,5 @@
 // Fixed-point numbers: an i32 of raw units of 1/65,536.
-ghost use Rattle.core.specs.Prelude.{◌≡◌, ℤ, ◌+ℤ◌, ◌-ℤ◌};
+ghost use Rattle.std.specs.Prelude.{◌≡◌, ℤ, ◌+ℤ◌, ◌-ℤ◌};
 ghost use Rattle.value.specs.Checked.{checked_i32, payload};
 ghost use Rattle.value.specs.Fixed.{fx_of, fx_product, fx_divided, ordered};
 

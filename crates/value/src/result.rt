@@ -1,5 +1,5 @@
 // How a run ended: with a value, or with a trap and the value Unit.
-ghost use Rattle.core.specs.Prelude.{◌≡◌};
+ghost use Rattle.std.specs.Prelude.{◌≡◌};
 ghost use Rattle.value.specs.Result.{status_word, returned_with, trapped_with};
 
 use crate::word::CoreValue;

@@ -1,5 +1,5 @@
 // Values and the register words that hold them: kind times 2^32 plus a payload of 32 bits.
-ghost use Rattle.core.specs.Prelude.{◌≡◌};
+ghost use Rattle.std.specs.Prelude.{◌≡◌};
 ghost use Rattle.value.specs.Value.{kind_of, payload_of, word_of, value_at, quad_value, bool_value, unit_value};
 
 use crate::checked;

@@ -1,0 +1,17 @@
+use Prim.Native.Nat.{◌-◌, ◌≤◌}
+use mathlib.Core.Path.{◌≡◌, refl}
+use mathlib.Core.List.{[]}
+use native.Mathlib.Omega.{arith}
+use borrow.Author.Rules.{rules}
+use Rattle.basis.specs.Answers.{first_of}
+use Rattle.basis.proofs.First.{first_none}
+use Rattle.image.specs.Image.{row_fault}
+use Rattle.image.specs.Records.{start_of}
+use Rattle.image.proofs.Checks.{row_right, start_next, row_spare, row_apart, sum_wrong, sum_right}
+use Rattle.image.proofs.table_fault.Given as goal
+
+abbrev pub invariant-loop-k : goal.invariant-loop-k
+invariant-loop-k l = (l.k ≤ l.n) × (l.start ≡ start_of l.image l.k) × (first_of (row_fault l.image) l.k ≡ [])
+
+abbrev pub decreases-loop-k : goal.decreases-loop-k
+decreases-loop-k l = l.n - l.k

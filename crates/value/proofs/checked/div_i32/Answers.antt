@@ -1,0 +1,10 @@
+use mathlib.Core.Path.{ap, ◌∙◌}
+use mir.Facts.{to_z-of_z}
+use Rattle.value.specs.Checked.{checked_i32}
+use Rattle.value.proofs.Signs.{zero_yes, zero_no, some_bits}
+use Rattle.value.proofs.Wide.{wide_asks, quotient_asks, quotient_is}
+use borrow.Author.Rules.{rules}
+use Rattle.value.proofs.checked.div_i32.Goals as goal
+
+pub returns : goal.returns
+returns c = rw (zero_no c.args.b c.if-b-eq0.false) (c.fit_i32.ensures ∙ ap checked_i32 (quotient_is c.ranges.a c.ranges.b))
