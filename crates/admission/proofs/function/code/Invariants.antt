@@ -15,7 +15,7 @@ use Rattle.admission.proofs.Functions.{fault_at, returns_more, code_more, code_f
 use Rattle.admission.proofs.function.code.Given as goal
 
 abbrev pub invariant-loop-j : goal.invariant-loop-j
-invariant-loop-j l = (l.j ≤ l.len) × (has-return ≡ returns_before (code_of (decode form1 l.image) l.k) l.j) × (first_of (fault_at (decode form1 l.image) l.k) l.j ≡ [])
+invariant-loop-j l = (l.j ≤ l.len) × (l.has_return ≡ returns_before (code_of (decode form1 l.image) l.k) l.j) × (first_of (fault_at (decode form1 l.image) l.k) l.j ≡ [])
 
 abbrev pub decreases-loop-j : goal.decreases-loop-j
 decreases-loop-j l = l.len - l.j
