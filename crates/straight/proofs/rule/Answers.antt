@@ -26,7 +26,7 @@ unfolding flow_of asked
 returns-in-53 c = rw c.in-53.is c.jump_if-in-53.ensures
 
 pub returns-in-3-to-50 : goal.returns-in-3-to-50
-returns-in-3-to-50 c = stores _ _ _ _ _ c.in-3-to-50.in_default-own.rest.0.0.0.0.0.1 c.in_default-1.rest.0.0.0.0.1 c.in_default-1.rest.0.0.0.1 c.in-3-to-50.if-op-lt51-own.true c.operate.ensures c.to_store.ensures
+returns-in-3-to-50 c = stores _ _ _ _ _ c.in-3-to-50.in_default-own.rest.0.0.0.0.0.1 c.in-3-to-50.in_default-own.rest.0.0.0.0.1 c.in-3-to-50.in_default-own.rest.0.0.0.1 c.in-3-to-50.if-op-lt51-own.true c.operate.ensures c.to_store.ensures
 
 pub returns-in_default : goal.returns-in_default
 returns-in_default c = leaving _ _ _ (past _ 51 3 (((tt, c.in_default.in_default-own.rest.0.0.1), c.in_default.in_default-own.rest.0.1), c.in_default.in_default-own.rest.1) c.in_default.if-op-lt51-own.false)
