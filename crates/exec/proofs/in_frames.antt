@@ -1,2 +1,1 @@
-mod Slices
 mod Stopped
