@@ -1,0 +1,16 @@
+use mathlib.Core.Path.{◌≡◌, refl, sym, subst, ◌∙◌}
+use native.Mathlib.Omega.{arith}
+use native.Mathlib.Nat.{mod-lt}
+use Prim.Native.Nat.{ℕ, suc, ◌+◌, ◌-◌, ◌≤◌, ◌%◌, ◌/◌}
+use lib.ListN.{length, set, length-set}
+use lib.Seq.{sets}
+use Rattle.text.specs.Digits.{digit, digits}
+use Rattle.text.proofs.Stores.{digit_put}
+use borrow.Author.Rules.{rules}
+use Rattle.text.proofs.digits.put_digits.Given as goal
+
+abbrev pub invariant-loop-left : goal.invariant-loop-left
+invariant-loop-left l = (l.left ≤ l.width) × (length l.out ≡ length l.initial.out) × (sets l.initial.out l.at (digits l.base l.width l.n) ≡ sets l.out l.at (digits l.base l.left l.rest))
+
+abbrev pub decreases-loop-left : goal.decreases-loop-left
+decreases-loop-left l = l.left
