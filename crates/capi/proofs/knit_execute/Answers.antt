@@ -1,0 +1,6 @@
+use Rattle.capi.proofs.Words.{crosses}
+use borrow.Author.Rules.{rules}
+use Rattle.capi.proofs.knit_execute.Goals as goal
+
+pub returns : goal.returns
+returns c = crosses _ _ _ _ _ c.of_outcome-r.ensures c.execute_outcome.ensures
