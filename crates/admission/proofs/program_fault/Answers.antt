@@ -4,7 +4,6 @@ use Rattle.image.specs.Records.{form1}
 use Rattle.image.specs.declared.record.Header.{Header}
 use Rattle.image.proofs.Parts.{entry_is, functions_length}
 use Rattle.admission.proofs.Programs.{by_profile, no_functions, too_many, no_entry, by_functions}
-use borrow.Author.Rules.{rules}
 use Rattle.admission.proofs.program_fault.Goals as goal
 
 pub returns-then-functions-eq0 : goal.returns-then-functions-eq0

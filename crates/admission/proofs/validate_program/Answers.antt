@@ -1,7 +1,6 @@
 use mathlib.Core.Path.{sym, ◌∙◌, ap}
 use Rattle.image.specs.Image.{check_numbers}
 use Rattle.admission.proofs.Programs.{by_image, by_program}
-use borrow.Author.Rules.{rules}
 use Rattle.admission.proofs.validate_program.Goals as goal
 
 pub returns-in-Fault : goal.returns-in-Fault

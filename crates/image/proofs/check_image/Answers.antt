@@ -1,8 +1,6 @@
-use borrow.Author.Tests.{not-true, not-false}
 use mathlib.Core.Path.{sym, ◌∙◌, ap}
 use Rattle.image.specs.Image.{check_numbers}
 use Rattle.image.proofs.Checks.{at_short, at_form, at_layout, at_table, at_records}
-use borrow.Author.Rules.{rules}
 use Rattle.image.proofs.check_image.Goals as goal
 
 pub returns-then-image-lt-HEADER_SIZE : goal.returns-then-image-lt-HEADER_SIZE

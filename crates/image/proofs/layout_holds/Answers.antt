@@ -1,6 +1,5 @@
 use borrow.Author.Tests.{eq-eqb, ne_eqb}
 use Rattle.image.specs.Image.{layout_holds}
-use borrow.Author.Rules.{rules}
 use Rattle.image.proofs.layout_holds.Goals as goal
 
 pub returns-then-h-ne-HEADER_SIZE : goal.returns-then-h-ne-HEADER_SIZE

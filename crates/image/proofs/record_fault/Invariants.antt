@@ -1,14 +1,9 @@
-use borrow.Author.Tests.{not-true, not-false}
 use Prim.Native.Nat.{ℕ, ◌+◌, ◌*◌, ◌-◌, ◌≤◌}
-use mathlib.Core.Path.{◌≡◌, refl, sym, ◌∙◌}
+use mathlib.Core.Path.{◌≡◌}
 use mathlib.Core.List.{[]}
-use native.Mathlib.Omega.{arith}
-use borrow.Author.Rules.{rules}
 use Rattle.basis.specs.Answers.{first_of}
-use Rattle.basis.proofs.First.{first_none}
 use Rattle.image.specs.Records.{form1_instr}
 use Rattle.image.specs.Image.{record_fault}
-use Rattle.image.proofs.Checks.{record_right, record_wrong}
 use Rattle.image.proofs.record_fault.Given as goal
 
 abbrev pub invariant-loop-k : goal.invariant-loop-k

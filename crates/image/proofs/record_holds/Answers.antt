@@ -2,7 +2,6 @@ use mathlib.Core.Logic.{⊎_elim, inl, inr}
 use native.Mathlib.Omega.{arith}
 use Rattle.image.specs.Fields.{forms, fields_of}
 use Rattle.image.proofs.Forms.{reach, run, beyond, above}
-use borrow.Author.Rules.{rules}
 use Rattle.image.proofs.record_holds.Goals as goal
 use Rattle.image.proofs.record_holds.Goals.{in-9-1, in-55-1, then-op-lt9, then-op-lt15, in_default+else-op-lt2+then-op-lt4, in_default+else-op-lt2+else-op-lt4+else-op-lt9+else-op-lt15+then-op-lt19, else-op-lt15+else-op-lt19+then-op-lt50, else-op-lt9+else-op-lt15+else-op-lt19+else-op-lt50+then-op-lt54}
 

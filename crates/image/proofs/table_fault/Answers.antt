@@ -1,11 +1,6 @@
-use Prim.Native.Nat.{◌-◌, ◌≤◌}
 use mathlib.Core.Path.{◌≡◌, refl}
-use mathlib.Core.List.{[]}
 use native.Mathlib.Omega.{arith}
-use borrow.Author.Rules.{rules}
-use Rattle.basis.specs.Answers.{first_of}
 use Rattle.basis.proofs.First.{first_none}
-use Rattle.image.specs.Image.{row_fault}
 use Rattle.image.specs.Records.{start_of}
 use Rattle.image.proofs.Checks.{row_right, start_next, row_spare, row_apart, sum_wrong, sum_right}
 use Rattle.image.proofs.table_fault.Goals as goal

@@ -1,7 +1,6 @@
 use Rattle.operate.proofs.Operands.{read_is}
 use Rattle.operate.specs.Operate.{read_dividing}
 use borrow.Author.Tests.{eq-eqb, ne_eqb}
-use borrow.Author.Rules.{rules}
 use Rattle.operate.proofs.dividing.Goals as goal
 
 pub returns-then-r-eq0 : goal.returns-then-r-eq0

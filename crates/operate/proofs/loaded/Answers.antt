@@ -2,7 +2,6 @@ use native.Mathlib.Omega.{arith}
 use mathlib.Core.Path.{◌≡◌}
 use Rattle.operate.specs.Parts.{on_load}
 use Rattle.operate.specs.Opcodes.{rules, rule_of}
-use Rattle.basis.proofs.Ranges.{past}
 use Rattle.operate.proofs.loaded.Goals as goal
 
 pub returns-in-3 : goal.returns-in-3

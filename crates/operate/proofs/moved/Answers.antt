@@ -1,6 +1,5 @@
 use borrow.Author.Tests.{le-leb, lt-leb}
 use Rattle.operate.specs.Operate.{read_any}
-use borrow.Author.Rules.{rules}
 use Rattle.operate.proofs.moved.Goals as goal
 
 pub returns-then-win-src : goal.returns-then-win-src

@@ -2,7 +2,6 @@ use mathlib.Core.Path.{refl}
 use Rattle.operate.proofs.Operands.{read_is}
 use Rattle.operate.specs.Operate.{read_shortcut}
 use borrow.Author.Tests.{eq-eqb, ne_eqb}
-use borrow.Author.Rules.{rules}
 use Rattle.operate.proofs.shortcut.Goals as goal
 
 pub returns-then-l-stop : goal.returns-then-l-stop

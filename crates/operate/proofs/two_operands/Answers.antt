@@ -1,6 +1,5 @@
 use Rattle.operate.proofs.Operands.{read_is}
 use Rattle.operate.specs.Operate.{read_two}
-use borrow.Author.Rules.{rules}
 use Rattle.operate.proofs.two_operands.Goals as goal
 
 pub returns-in-Fault : goal.returns-in-Fault

@@ -1,7 +1,6 @@
 use borrow.Author.Tests.{ne_eqb}
 use Rattle.straight.specs.Flow.{flow_of}
 use Rattle.straight.specs.Straight.{on_condition, asked}
-use borrow.Author.Rules.{rules}
 use Rattle.straight.proofs.assert.Goals as goal
 
 pub returns-in-Fault : goal.returns-in-Fault

@@ -1,6 +1,5 @@
 use Rattle.basis.proofs.Ranges.{past}
 use Rattle.straight.proofs.Flows.{leaving}
-use borrow.Author.Rules.{rules}
 use Rattle.straight.proofs.fan50.Goals as goal
 
 pub returns-in_default : goal.returns-in_default

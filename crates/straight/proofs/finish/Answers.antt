@@ -1,5 +1,4 @@
 use Rattle.straight.specs.Straight.{done}
-use borrow.Author.Rules.{rules}
 use Rattle.straight.proofs.finish.Goals as goal
 
 pub returns-in-Put : goal.returns-in-Put

@@ -1,6 +1,5 @@
 use borrow.Author.Tests.{eq-eqb, ne_eqb}
 use Rattle.straight.specs.Straight.{on_condition}
-use borrow.Author.Rules.{rules}
 use Rattle.straight.proofs.jump_if.Goals as goal
 
 pub returns-in-Fault : goal.returns-in-Fault

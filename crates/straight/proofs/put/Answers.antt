@@ -1,6 +1,5 @@
 use borrow.Author.Tests.{lt-ltb, le-ltb}
 use Rattle.straight.specs.Straight.{stored}
-use borrow.Author.Rules.{rules}
 use Rattle.straight.proofs.put.Goals as goal
 
 pub returns-then-dst-win : goal.returns-then-dst-win

@@ -2,7 +2,6 @@ use Rattle.basis.proofs.Ranges.{past}
 use Rattle.straight.specs.Flow.{flow_of}
 use Rattle.straight.specs.Straight.{asked}
 use Rattle.straight.proofs.Flows.{stores, leaving}
-use borrow.Author.Rules.{rules}
 use Rattle.straight.proofs.rule.Goals as goal
 
 pub returns-in-0 : goal.returns-in-0

@@ -1,5 +1,4 @@
 use Rattle.straight.specs.Straight.{straight}
-use borrow.Author.Rules.{rules}
 use Rattle.straight.proofs.straight.Goals as goal
 
 pub returns : goal.returns

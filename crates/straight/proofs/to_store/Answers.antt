@@ -1,5 +1,4 @@
 use Rattle.straight.specs.Straight.{storing}
-use borrow.Author.Rules.{rules}
 use Rattle.straight.proofs.to_store.Goals as goal
 
 pub returns-in-Value : goal.returns-in-Value

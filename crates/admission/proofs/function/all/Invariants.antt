@@ -1,11 +1,7 @@
 use Prim.Native.Nat.{◌-◌, ◌≤◌}
-use mathlib.Core.Path.{◌≡◌, sym, ◌∙◌}
+use mathlib.Core.Path.{◌≡◌}
 use mathlib.Core.List.{[]}
-use native.Mathlib.Omega.{arith}
-use borrow.Author.Rules.{rules}
-use borrow.Author.Tests.{not-true, not-false}
 use Rattle.basis.specs.Answers.{first_of}
-use Rattle.basis.proofs.First.{first_none, first_next, first_found}
 use Rattle.image.specs.Records.{form1}
 use Rattle.image.specs.Program.{decode}
 use Rattle.admission.specs.Verdict.{function_fault}

@@ -1,17 +1,12 @@
 use Prim.Native.Nat.{◌-◌, ◌≤◌}
-use mathlib.Core.Path.{◌≡◌, refl, sym, ◌∙◌}
+use mathlib.Core.Path.{◌≡◌}
 use mathlib.Core.List.{[]}
-use native.Mathlib.Omega.{arith}
-use borrow.Author.Rules.{rules}
-use borrow.Author.Tests.{not-true, not-false}
 use Rattle.basis.specs.Answers.{first_of}
-use Rattle.basis.proofs.First.{first_none}
 use Rattle.image.specs.Records.{form1}
 use Rattle.image.specs.Program.{decode}
-use Rattle.image.specs.Parts.{length_of, code_of}
+use Rattle.image.specs.Parts.{code_of}
 use Rattle.admission.specs.Verdict.{returns_before}
-use Rattle.image.proofs.Numbers.{numbers, fetched}
-use Rattle.admission.proofs.Functions.{fault_at, returns_more, code_more, code_found, code_fine, code_missing}
+use Rattle.admission.proofs.Functions.{fault_at}
 use Rattle.admission.proofs.function.code.Given as goal
 
 abbrev pub invariant-loop-j : goal.invariant-loop-j

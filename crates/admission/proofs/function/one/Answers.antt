@@ -1,9 +1,7 @@
 use mathlib.Core.Path.{◌∙◌}
-use native.Mathlib.Omega.{arith}
 use Rattle.image.specs.Records.{form1}
 use Rattle.image.proofs.Numbers.{numbers}
 use Rattle.admission.proofs.Functions.{too_wide, too_long, by_code}
-use borrow.Author.Rules.{rules}
 use Rattle.admission.proofs.function.one.Goals as goal
 
 pub returns-then-regs-max_regs : goal.returns-then-regs-max_regs

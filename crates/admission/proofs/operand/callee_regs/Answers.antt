@@ -4,7 +4,6 @@ use native.Mathlib.Omega.{arith}
 use Rattle.image.specs.Records.{form1, header_of}
 use Rattle.image.specs.declared.record.FunctionRecord.{FunctionRecord}
 use Rattle.image.proofs.Numbers.{regs_in, regs_out}
-use borrow.Author.Rules.{rules}
 use Rattle.admission.proofs.operand.callee_regs.Goals as goal
 
 pub returns-then-callee-functions : goal.returns-then-callee-functions

@@ -6,7 +6,6 @@ use Rattle.image.specs.Records.{form1}
 use Rattle.image.proofs.Forms.{takes, form_run, no_form, above}
 use Rattle.image.proofs.Numbers.{numbers}
 use Rattle.admission.proofs.Operands.{in_bare, in_two, in_three, in_jump, in_branch, in_call, in_loads, in_ret}
-use borrow.Author.Rules.{rules}
 use Rattle.admission.proofs.operand.check_instr.Goals as goal
 use Rattle.admission.proofs.operand.check_instr.Goals.{in-9-1, in-55-1, then-op-lt15, else-op-lt15+else-op-lt19+then-op-lt50, in_default+else-op-lt2+else-op-lt9+else-op-lt15+then-op-lt19, in_default+else-op-lt2+then-op-lt9}
 

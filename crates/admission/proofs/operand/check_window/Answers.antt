@@ -1,6 +1,5 @@
 use borrow.Author.Tests.{le-leb, lt-leb}
 use Rattle.admission.specs.Verdict.{window_fault}
-use borrow.Author.Rules.{rules}
 use Rattle.admission.proofs.operand.check_window.Goals as goal
 
 pub returns-then-base-count : goal.returns-then-base-count

@@ -1,7 +1,6 @@
 use Rattle.image.specs.Records.{function_at}
 use mathlib.Core.Path.{sym}
 use Rattle.image.proofs.Bytes.{function_past}
-use borrow.Author.Rules.{rules}
 use Rattle.image.proofs.record.cut_function.Goals as goal
 
 pub returns-then-image-at : goal.returns-then-image-at

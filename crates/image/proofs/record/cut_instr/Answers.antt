@@ -1,8 +1,6 @@
-use native.Mathlib.Omega.{arith}
 use Rattle.image.specs.Records.{form1_instr}
 use mathlib.Core.Path.{sym}
 use Rattle.image.proofs.Bytes.{instr_past}
-use borrow.Author.Rules.{rules}
 use Rattle.image.proofs.record.cut_instr.Goals as goal
 
 pub returns-then-image-at-clause-value : goal.returns-then-image-at-clause-value

@@ -1,5 +1,4 @@
 use Rattle.image.specs.Records.{header_of}
-use borrow.Author.Rules.{rules}
 use Rattle.image.proofs.record.function_count.Goals as goal
 
 pub returns-then-image-lt-HEADER_SIZE : goal.returns-then-image-lt-HEADER_SIZE

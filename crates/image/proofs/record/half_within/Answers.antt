@@ -1,5 +1,4 @@
 use Rattle.basis.specs.Bytes.{byte_at, half_at}
-use borrow.Author.Rules.{rules}
 use Rattle.image.proofs.record.half_within.Goals as goal
 
 pub returns : goal.returns

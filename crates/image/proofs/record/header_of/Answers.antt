@@ -1,5 +1,4 @@
 use Rattle.image.specs.Records.{header_of}
-use borrow.Author.Rules.{rules}
 use Rattle.image.proofs.record.header_of.Goals as goal
 
 pub returns : goal.returns

@@ -1,5 +1,4 @@
 use Rattle.image.specs.Records.{function_at}
-use borrow.Author.Rules.{rules}
 use Rattle.image.proofs.record.whole_function.Goals as goal
 
 pub returns : goal.returns

@@ -1,7 +1,5 @@
-use native.Mathlib.Omega.{arith}
 use Rattle.basis.specs.Bytes.{byte_at}
 use Rattle.image.specs.Records.{form1_instr}
-use borrow.Author.Rules.{rules}
 use Rattle.image.proofs.record.whole_instr.Goals as goal
 
 pub returns-clause-value : goal.returns-clause-value

@@ -1,5 +1,4 @@
 use Rattle.basis.specs.Bytes.{word_at}
-use borrow.Author.Rules.{rules}
 use Rattle.image.proofs.record.word_within.Goals as goal
 
 pub returns : goal.returns

@@ -1,14 +1,9 @@
 use native.Mathlib.Omega.{arith}
 use mathlib.Core.Path.{◌≡◌, ◌∙◌}
-use lib.IntN.{ℤ}
 use lib.Signed.{lt_z, le_z}
-use mir.Syntax.{w32}
-use mir.Val.{to_z, of_z}
-use Rattle.value.specs.Checked.{signed}
 use Rattle.operate.specs.Rule.{bool_result}
 use Rattle.operate.specs.Parts.{on_two}
 use Rattle.operate.specs.Opcodes.{rules, rule_of}
-use Rattle.basis.proofs.Ranges.{past}
 use Rattle.operate.proofs.Operands.{on_signed}
 use Rattle.operate.proofs.apply.compared.Goals as goal
 

@@ -10,7 +10,6 @@ use Rattle.value.proofs.Signs.{read_back}
 use Rattle.operate.specs.Rule.{fx_result}
 use Rattle.operate.specs.Parts.{on_two}
 use Rattle.operate.specs.Opcodes.{rules, rule_of}
-use Rattle.basis.proofs.Ranges.{past}
 use Rattle.operate.proofs.apply.fxs.Goals as goal
 
 -- the two operands as raw units, wherever the code goes from there

@@ -1,13 +1,10 @@
 use native.Mathlib.Omega.{arith}
 use mathlib.Core.Path.{◌≡◌, ap, ◌∙◌}
-use lib.IntN.{ℤ, ◌+ℤ◌, ◌-ℤ◌, ◌*ℤ◌}
-use mir.Syntax.{w32}
-use mir.Val.{to_z, of_z}
-use Rattle.value.specs.Checked.{signed, checked_i32, divided_i32}
+use lib.IntN.{◌+ℤ◌, ◌-ℤ◌, ◌*ℤ◌}
+use Rattle.value.specs.Checked.{checked_i32, divided_i32}
 use Rattle.operate.specs.Rule.{i32_result}
 use Rattle.operate.specs.Parts.{on_two}
 use Rattle.operate.specs.Opcodes.{rules, rule_of}
-use Rattle.basis.proofs.Ranges.{past}
 use Rattle.operate.proofs.Operands.{on_signed}
 use Rattle.operate.proofs.apply.i32s.Goals as goal
 

@@ -3,7 +3,6 @@ use mathlib.Core.Path.{◌≡◌, ap, ◌∙◌}
 use Rattle.operate.specs.Rule.{u32_result}
 use Rattle.operate.specs.Parts.{on_two}
 use Rattle.operate.specs.Opcodes.{rules, rule_of}
-use Rattle.basis.proofs.Ranges.{past}
 use Rattle.operate.proofs.apply.u32s.Goals as goal
 
 pub returns-in-32 : goal.returns-in-32

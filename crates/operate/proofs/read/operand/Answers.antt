@@ -1,5 +1,4 @@
 use Rattle.operate.proofs.Words.{read_missing, read_below, read_inside, read_above}
-use borrow.Author.Rules.{rules}
 use Rattle.operate.proofs.read.operand.Goals as goal
 
 pub returns-then-win-r : goal.returns-then-win-r

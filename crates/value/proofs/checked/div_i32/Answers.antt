@@ -1,9 +1,7 @@
 use mathlib.Core.Path.{ap, ◌∙◌}
-use mir.Facts.{to_z-of_z}
 use Rattle.value.specs.Checked.{checked_i32}
-use Rattle.value.proofs.Signs.{zero_yes, zero_no, some_bits}
-use Rattle.value.proofs.Wide.{wide_asks, quotient_asks, quotient_is}
-use borrow.Author.Rules.{rules}
+use Rattle.value.proofs.Signs.{zero_no}
+use Rattle.value.proofs.Wide.{quotient_is}
 use Rattle.value.proofs.checked.div_i32.Goals as goal
 
 pub returns : goal.returns

@@ -1,5 +1,4 @@
 use Rattle.value.specs.Digest.{digested}
-use borrow.Author.Rules.{rules}
 use Rattle.value.proofs.digest.digest_words.Goals as goal
 
 pub returns : goal.returns

@@ -1,5 +1,4 @@
 use Rattle.value.specs.Digest.{mixed}
-use borrow.Author.Rules.{rules}
 use Rattle.value.proofs.digest.mix.Goals as goal
 
 pub returns : goal.returns

@@ -1,9 +1,7 @@
 use mathlib.Core.Path.{ap, ◌∙◌}
-use mir.Facts.{to_z-of_z}
 use Rattle.value.specs.Checked.{checked_i32}
-use Rattle.value.proofs.Signs.{zero_yes, zero_no, some_bits}
-use Rattle.value.proofs.Wide.{wide_asks, scaled_asks, fx_quotient_asks, fx_quotient_is}
-use borrow.Author.Rules.{rules}
+use Rattle.value.proofs.Signs.{zero_no}
+use Rattle.value.proofs.Wide.{fx_quotient_is}
 use Rattle.value.proofs.fx.quotient.Goals as goal
 
 pub returns : goal.returns

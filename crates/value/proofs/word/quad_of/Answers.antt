@@ -1,6 +1,5 @@
 use native.Mathlib.Omega.{arith}
 use Rattle.quad.proofs.Bits.{no_state}
-use borrow.Author.Rules.{rules}
 use Rattle.value.proofs.word.quad_of.Goals as goal
 
 pub returns-then-p-gt255 : goal.returns-then-p-gt255

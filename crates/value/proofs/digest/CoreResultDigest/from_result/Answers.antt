@@ -1,5 +1,4 @@
 use Rattle.value.specs.Digest.{result_digest}
-use borrow.Author.Rules.{rules}
 use Rattle.value.proofs.digest.CoreResultDigest.from_result.Goals as goal
 
 pub returns : goal.returns

@@ -6,7 +6,6 @@ use native.Mathlib.Omega.{arith}
 use borrow.Author.Tests.{ne_eqb}
 use Rattle.value.specs.Value.{value_at}
 use Rattle.value.proofs.Signs.{read_back}
-use borrow.Author.Rules.{rules}
 use Rattle.value.proofs.word.CoreValue.from_word.Goals as goal
 
 pub returns-in-0 : goal.returns-in-0

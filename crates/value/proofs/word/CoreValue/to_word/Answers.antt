@@ -1,5 +1,4 @@
 use Rattle.value.specs.Value.{word_of}
-use borrow.Author.Rules.{rules}
 use Rattle.value.proofs.word.CoreValue.to_word.Goals as goal
 
 pub returns : goal.returns
