@@ -8,4 +8,4 @@ abbrev pub Within : ℕ → Part → Type 0
 Within most (Bytes n) = n ≤ most
 Within most End = Unit {0}
 Within most Interrupted = Unit {0}
-Within most Failed = Unit {0}
+Within most (Failed e) = Unit {0}

@@ -1,14 +1,19 @@
 // Reads an image from standard input and prints one line: what running it with the default configuration answered, or why it was
-// refused. What the line says of the bytes that were read is proved, `answer`; C's read and write have no contract that speaks of bytes.
+// refused. What the line says of the bytes that were read is proved, `answer`; no contract says which bytes standard input gives.
 //
-// Where standard input cannot be read or standard output cannot be written, there is no answer; standard error says so.
+// Where standard input cannot be read or standard output cannot be written, there is no answer; standard error says so, and the exit
+// status is 1.
 #![tactic(auto)]
 
 ghost use Rattle.std.specs.Prelude.{true, ◌≡◌, ◌-◌, ◌≤◌, length, take};
 ghost use Rattle.text.specs.Line.{printed};
 ghost use Rattle.runner.specs.Reading.{Within};
 
-use libc::{EINTR, STDIN_FILENO, STDOUT_FILENO};
+use arrayvec::ArrayString;
+use std::fmt::Write as _;
+use std::io;
+use std::io::{ErrorKind, Read, Write};
+use std::process::ExitCode;
 use text::line::{LINE_BYTES, reply};
 
 // As many bytes of an image as the runner holds.
@@ -19,20 +24,20 @@ const REGISTERS: usize = 2048;
 // 64 frames of four words.
 const FRAME_WORDS: usize = 256;
 
-// What one read or write moved.
+// What one read moved.
 #[derive(Clone, Copy)]
 enum Part {
     Bytes(usize),
     End,
     Interrupted,
-    Failed,
+    Failed(io::Error),
 }
 
-// So many bytes were read; `good` says that no read failed.
+// So many bytes were read; `good` says that no read failed, or how one did.
 #[derive(Clone, Copy)]
 struct Input {
     count: usize,
-    good: bool,
+    good: io::Result<()>,
 }
 
 // An image that was read. more: the input has bytes after it.
@@ -40,85 +45,95 @@ struct Input {
 struct Held {
     count: usize,
     more: bool,
-    good: bool,
+    good: io::Result<()>,
 }
 
-// What a call of C's read or write answered for a buffer.
-fn part_of(moved: isize, buf: &[u8]) -> Part
+// What a read answered for a buffer.
+fn part_of(moved: io::Result<usize>, buf: &[u8]) -> Part
     ensures { Within (length buf.now) result }
 {
-    if moved < 0 {
-        if os::errno() == EINTR {
-            return Part::Interrupted;
+    match moved {
+        Ok(0) => Part::End,
+        Ok(n) => Part::Bytes(n.min(buf.len())),
+        Err(e) => {
+            if e.kind() == ErrorKind::Interrupted {
+                return Part::Interrupted;
+            }
+            Part::Failed(e)
         }
-        return Part::Failed;
     }
-    if moved == 0 {
-        return Part::End;
-    }
-    Part::Bytes(io::count(moved, buf))
 }
 
 // One read behind the first `count` bytes, which stay.
-fn read_on(buf: &mut [u8], count: usize) -> Part
+fn read_on(input: &mut impl Read, buf: &mut [u8], count: usize) -> Part
     requires { count ≤ length buf.old }
     ensures within { Within (length buf.new - count) result }
     ensures buf_unchanged { take count buf.new ≡ take count buf.old }
 {
     let rest = &mut buf[count..];
-    let moved = libc::read(STDIN_FILENO, rest);
+    let moved = input.read(rest);
     part_of(moved, rest)
 }
 
 // Reads until buf is full or the input ends. A pipe gives what it has, so one read is seldom all; a signal may come before any byte. A
 // proved loop ends, and nothing says that signals do: it counts down from a number that no run uses up.
-fn fill(buf: &mut [u8]) -> Input
+fn fill(input: &mut impl Read, buf: &mut [u8]) -> Input
     ensures { result.count ≤ length buf.new }
 {
     let mut count = 0;
     let mut turns = u64::MAX;
     while turns > 0 && count < buf.len() {
         turns -= 1;
-        match read_on(buf, count) {
+        match read_on(input, buf, count) {
             Part::Bytes(n) => {
                 count += n;
             }
             Part::End => {
-                return Input { count, good: true };
+                return Input {
+                    count,
+                    good: Ok(()),
+                };
             }
             Part::Interrupted => {}
-            Part::Failed => {
-                return Input { count, good: false };
+            Part::Failed(e) => {
+                return Input {
+                    count,
+                    good: Err(e),
+                };
             }
         }
     }
+    if turns == 0 {
+        let good = Err(io::Error::from(ErrorKind::Interrupted));
+        return Input { count, good };
+    }
     Input {
         count,
-        good: turns > 0,
+        good: Ok(()),
     }
 }
 
 // What came, and whether a byte came after it that image has no place for; that is looked for only where image is full.
-fn read_image(image: &mut [u8], next: &mut [u8]) -> Held
+fn read_image(input: &mut impl Read, image: &mut [u8], next: &mut [u8]) -> Held
     ensures count_in_bounds { result.count ≤ length image.new }
     ensures count_value { result.more ≡ true → result.count ≡ length image.new }
 {
-    let first = fill(image);
-    if !first.good {
+    let first = fill(input, image);
+    if first.good.is_err() {
         return Held {
             count: first.count,
             more: false,
-            good: false,
+            good: first.good,
         };
     }
     if first.count < image.len() {
         return Held {
             count: first.count,
             more: false,
-            good: true,
+            good: Ok(()),
         };
     }
-    let rest = fill(next);
+    let rest = fill(input, next);
     Held {
         count: first.count,
         more: rest.count > 0,
@@ -137,40 +152,39 @@ fn answer(image: &[u8], more: bool, line: &mut [u8; LINE_BYTES]) -> usize
 }
 
 // Writes it all; a write may take a part, and a signal may come before any byte.
-fn write_line(line: &[u8]) -> bool {
-    let mut done = 0;
-    let mut turns = u64::MAX;
-    while turns > 0 && done < line.len() {
-        turns -= 1;
-        let rest = &line[done..];
-        match part_of(libc::write(STDOUT_FILENO, rest), rest) {
-            Part::Bytes(n) => {
-                done += n;
-            }
-            Part::Interrupted => {}
-            Part::End => {
-                return false;
-            }
-            Part::Failed => {
-                return false;
-            }
-        }
-    }
-    turns > 0
+fn write_line(output: &mut impl Write, line: &[u8]) -> io::Result<()> {
+    output.write_all(line)
 }
 
-fn main() {
+// The words of an error, without the number that std puts behind them in brackets.
+fn words(text: &str) -> &str {
+    match text.split_once(" (") {
+        Some((words, _)) => words,
+        None => text,
+    }
+}
+
+// Writes a line to standard error: what failed, a colon and the error's words.
+fn fail(rt: &impl Eprint, what: &str, error: io::Error) {
+    let mut text = ArrayString::<256>::new();
+    let _ = write!(text, "{error}");
+    let _ = eprintln!(rt; "{what}: {}", words(text.as_str()));
+}
+
+fn main(rt: HostRuntime) -> ExitCode {
     let mut image = [0u8; IMAGE_BYTES];
     let mut next = [0u8; 1];
-    let held = read_image(&mut image, &mut next);
-    if !held.good {
-        os::fail(b"runner: standard input");
-        return;
+    let held = read_image(&mut rt.stdin(), &mut image, &mut next);
+    if let Err(e) = held.good {
+        fail(&rt, "runner: standard input", e);
+        return ExitCode::FAILURE;
     }
     let mut line = [0u8; LINE_BYTES];
     let n = held.count;
     let count = answer(&image[..n], held.more, &mut line);
-    if !write_line(&line[..count]) {
-        os::fail(b"runner: standard output");
+    if let Err(e) = write_line(&mut rt.stdout(), &line[..count]) {
+        fail(&rt, "runner: standard output", e);
+        return ExitCode::FAILURE;
     }
+    ExitCode::SUCCESS
 }
