@@ -1,26 +1,25 @@
 // What becomes of a line.
-use libc::STDOUT_FILENO;
+use std::io;
 
 // It was answered; it is no case; or its answer could not be written.
 #[derive(Clone, Copy)]
 pub enum Answered {
     Told,
     NoCase,
-    Failed,
+    Failed(io::Error),
 }
 
-pub fn told(written: bool) -> Answered {
-    if written {
-        Answered::Told
-    } else {
-        Answered::Failed
+pub fn told(written: io::Result<()>) -> Answered {
+    match written {
+        Ok(()) => Answered::Told,
+        Err(e) => Answered::Failed(e),
     }
 }
 
-pub fn print_bad() -> bool {
-    io::write_all(STDOUT_FILENO, b"bad line\n")
+pub fn print_bad(rt: &impl Print) -> io::Result<()> {
+    println!(rt; "bad line")
 }
 
-pub fn print_too_large() -> bool {
-    io::write_all(STDOUT_FILENO, b"too large\n")
+pub fn print_too_large(rt: &impl Print) -> io::Result<()> {
+    println!(rt; "too large")
 }

@@ -7,8 +7,11 @@
 
 ghost use Rattle.std.specs.Prelude.{◌≤◌, ◌<◌, ◌≡◌, length};
 
-use libc::{EINTR, STDIN_FILENO};
+use arrayvec::ArrayString;
 use lines::{Answered, print_bad, print_too_large};
+use std::fmt::Write;
+use std::io;
+use std::io::{ErrorKind, Read};
 
 mod fields;
 mod lines;
@@ -41,32 +44,50 @@ fn begins(line: &[u8], word: &[u8]) -> bool {
     true
 }
 
-fn answer(line: &[u8]) -> Answered {
+fn answer(rt: &impl Print, line: &[u8]) -> Answered {
     if begins(line, b"operate ") {
-        return operation::answer_operation(line);
+        return operation::answer_operation(rt, line);
     }
     if begins(line, b"validate ") {
-        return program::answer_validate(line);
+        return program::answer_validate(rt, line);
     }
     if begins(line, b"run ") {
-        return program::answer_run(line);
+        return program::answer_run(rt, line);
     }
     Answered::NoCase
 }
 
-// Says whether to go on.
-fn goes_on(written: bool) -> bool {
-    if !written {
-        os::fail(b"replay: standard output");
+// The words of an error, without the number that std puts behind them in brackets.
+fn words(text: &str) -> &str {
+    match text.split_once(" (") {
+        Some((words, _)) => words,
+        None => text,
     }
-    written
 }
 
-fn answer_line(line: &[u8]) -> bool {
-    match answer(line) {
+// Writes a line to standard error: what failed, a colon and the error's words.
+fn fail(rt: &impl Eprint, what: &str, error: io::Error) {
+    let mut text = ArrayString::<256>::new();
+    let _ = write!(text, "{error}");
+    let _ = eprintln!(rt; "{what}: {}", words(text.as_str()));
+}
+
+// Says whether to go on.
+fn goes_on(rt: &impl Eprint, written: io::Result<()>) -> bool {
+    match written {
+        Ok(()) => true,
+        Err(e) => {
+            fail(rt, "replay: standard output", e);
+            false
+        }
+    }
+}
+
+fn answer_line(rt: &(impl Print + Eprint), line: &[u8]) -> bool {
+    match answer(rt, line) {
         Answered::Told => true,
-        Answered::NoCase => goes_on(print_bad()),
-        Answered::Failed => goes_on(false),
+        Answered::NoCase => goes_on(rt, print_bad(rt)),
+        Answered::Failed(e) => goes_on(rt, Err(e)),
     }
 }
 
@@ -86,12 +107,12 @@ fn drop_front(buf: &mut [u8], from: usize, held: usize) -> usize
 }
 
 // A whole line is there.
-fn take_line(buf: &mut [u8], end: usize, s: Stream) -> Stream
+fn take_line(rt: &(impl Print + Eprint), buf: &mut [u8], end: usize, s: Stream) -> Stream
     requires end_lt_held { end < s.held }
     requires held_in_bounds { s.held ≤ length buf.old }
     ensures { result.held ≤ length buf.new }
 {
-    let go = s.skip || answer_line(&buf[..end]);
+    let go = s.skip || answer_line(rt, &buf[..end]);
     Stream {
         held: drop_front(buf, end + 1, s.held),
         skip: false,
@@ -100,10 +121,10 @@ fn take_line(buf: &mut [u8], end: usize, s: Stream) -> Stream
 }
 
 // No line's end is there, and the buffer is full.
-fn give_up(s: Stream) -> Stream
+fn give_up(rt: &(impl Print + Eprint), s: Stream) -> Stream
     ensures { result.held ≡ 0 }
 {
-    let go = s.skip || goes_on(print_too_large());
+    let go = s.skip || goes_on(rt, print_too_large(rt));
     Stream {
         held: 0,
         skip: true,
@@ -112,37 +133,36 @@ fn give_up(s: Stream) -> Stream
 }
 
 // The input has ended; its last line need not have a line feed.
-fn end_line(buf: &[u8], s: Stream)
+fn end_line(rt: &(impl Print + Eprint), buf: &[u8], s: Stream)
     requires { s.held ≤ length buf.now }
 {
     let held = s.held;
     if (held > 0) & !s.skip {
-        answer_line(&buf[..held]);
+        answer_line(rt, &buf[..held]);
     }
 }
 
 // No line's end is there, and the buffer has room for more.
-fn read_on(buf: &mut [u8], s: Stream) -> Stream
+fn read_on(rt: &(impl Print + Eprint), input: &mut impl Read, buf: &mut [u8], s: Stream) -> Stream
     requires { s.held ≤ length buf.old }
     ensures { result.held ≤ length buf.new }
 {
     let held = s.held;
-    let got = libc::read(STDIN_FILENO, &mut buf[held..]);
-    let n = io::count(got, &buf[held..]);
-    if n > 0 {
-        return Stream {
-            held: held + n,
-            skip: s.skip,
-            go: true,
-        };
-    }
-    if got < 0 {
-        if os::errno() == EINTR {
-            return s;
+    match input.read(&mut buf[held..]) {
+        Ok(0) => end_line(rt, buf, s),
+        Ok(n) => {
+            return Stream {
+                held: held + n,
+                skip: s.skip,
+                go: true,
+            };
         }
-        os::fail(b"replay: standard input");
-    } else {
-        end_line(buf, s);
+        Err(e) => {
+            if e.kind() == ErrorKind::Interrupted {
+                return s;
+            }
+            fail(rt, "replay: standard input", e);
+        }
     }
     Stream {
         held: 0,
@@ -151,23 +171,23 @@ fn read_on(buf: &mut [u8], s: Stream) -> Stream
     }
 }
 
-fn turn(buf: &mut [u8], s: Stream) -> Stream
+fn turn(rt: &(impl Print + Eprint), input: &mut impl Read, buf: &mut [u8], s: Stream) -> Stream
     requires { s.held ≤ length buf.old }
     ensures { result.held ≤ length buf.new }
 {
     let held = s.held;
     let end = fields::find(&buf[..held], 0, b'\n');
     if end < held {
-        return take_line(buf, end, s);
+        return take_line(rt, buf, end, s);
     }
     if held == buf.len() {
-        return give_up(s);
+        return give_up(rt, s);
     }
-    read_on(buf, s)
+    read_on(rt, input, buf, s)
 }
 
 // A proved loop ends, and nothing says that an input does: it counts down from a number that no list of cases reaches.
-fn answer_all(buf: &mut [u8]) {
+fn answer_all(rt: &(impl Print + Eprint), input: &mut impl Read, buf: &mut [u8]) {
     let mut s = Stream {
         held: 0,
         skip: false,
@@ -175,12 +195,12 @@ fn answer_all(buf: &mut [u8]) {
     };
     let mut turns: u64 = 0xffff_ffff;
     while turns > 0 && s.go {
-        s = turn(buf, s);
+        s = turn(rt, input, buf, s);
         turns -= 1;
     }
 }
 
-fn main() {
+fn main(rt: HostRuntime) {
     let mut buf = [0u8; LINE_BYTES];
-    answer_all(&mut buf);
+    answer_all(&rt, &mut rt.stdin(), &mut buf);
 }

@@ -5,8 +5,8 @@ ghost use Rattle.std.specs.Prelude.{◌≡◌, length};
 use crate::fields::{Field, hex, register};
 use crate::lines::{Answered, told};
 use instr::Instr;
-use libc::STDOUT_FILENO;
 use operate::Outcome;
+use std::io;
 use value::word::{CoreValue, WordFound};
 
 // The operands are the registers of a window of two; one that is not there has an index past it.
@@ -61,22 +61,25 @@ fn read_operand(text: &[u8], index: usize) -> Operand {
 }
 
 // No opcode from 3 to 50 computes no value, so nothing is printed for that.
-fn print_outcome(outcome: Outcome) -> bool {
+fn print_outcome(rt: &impl Print, outcome: Outcome) -> io::Result<()> {
     match outcome {
-        Outcome::Value(word) => {
-            io::write_all(STDOUT_FILENO, b"value ");
-            io::print_hex(STDOUT_FILENO, word, 16);
-        }
+        Outcome::Value(word) => println!(rt; "value {word:016x}"),
         Outcome::Trap(t) => {
-            io::write_all(STDOUT_FILENO, b"trap ");
-            io::print_decimal(STDOUT_FILENO, t.code() as u64);
+            let code = t.code();
+            println!(rt; "trap {code}")
         }
-        Outcome::NoValue => {}
+        Outcome::NoValue => println!(rt),
     }
-    io::write_all(STDOUT_FILENO, b"\n")
 }
 
-fn operate_on(op: u64, small: u64, w: u64, lhs: Operand, rhs: Operand) -> bool {
+fn operate_on(
+    rt: &impl Print,
+    op: u64,
+    small: u64,
+    w: u64,
+    lhs: Operand,
+    rhs: Operand,
+) -> io::Result<()> {
     let opcode = (op % 256) as u8;
     let i = Instr {
         op: opcode,
@@ -87,7 +90,7 @@ fn operate_on(op: u64, small: u64, w: u64, lhs: Operand, rhs: Operand) -> bool {
         w: (w % 0x1_0000_0000) as u32,
     };
     let window = [lhs.word, rhs.word];
-    print_outcome(operate::operate(opcode, i, &window))
+    print_outcome(rt, operate::operate(opcode, i, &window))
 }
 
 // A space after each field but the last: without this test, a line that lost a byte would be answered as if it were another.
@@ -98,7 +101,7 @@ fn is_framed(line: &[u8]) -> bool
 }
 
 // A line that begins with `operate` and a space.
-pub fn answer_operation(line: &[u8]) -> Answered {
+pub fn answer_operation(rt: &impl Print, line: &[u8]) -> Answered {
     if line.len() != 56 {
         return Answered::NoCase;
     }
@@ -114,7 +117,7 @@ pub fn answer_operation(line: &[u8]) -> Answered {
     let lhs = read_operand(&line[23..39], 0);
     let rhs = read_operand(&line[40..56], 1);
     if lhs.good & rhs.good & is_framed(line) & is_lawful(op, small, w) {
-        return told(operate_on(op, small, w, lhs, rhs));
+        return told(operate_on(rt, op, small, w, lhs, rhs));
     }
     Answered::NoCase
 }

@@ -4,7 +4,7 @@ ghost use Rattle.std.specs.Prelude.{◌≤◌};
 use crate::fields::{Field, image, next_number};
 use crate::lines::{Answered, print_too_large, told};
 use capi::{knit_execute, knit_validate};
-use libc::STDOUT_FILENO;
+use std::io;
 
 // As many bytes as a line has room for.
 const IMAGE_BYTES: usize = 8192;
@@ -29,38 +29,34 @@ fn values_of(number: u64) -> usize
     }
 }
 
-fn print_values(words: &[u64; 5], n: usize) -> bool
+fn print_values(rt: &impl Print, words: &[u64; 5], n: usize) -> io::Result<()>
     requires { n ≤ 5 }
 {
-    let mut i = 0;
-    while i < n {
-        io::write_all(STDOUT_FILENO, b" ");
-        io::print_decimal(STDOUT_FILENO, words[i]);
-        i += 1;
+    for word in &words[..n] {
+        print!(rt; " {word}")?;
     }
-    io::write_all(STDOUT_FILENO, b"\n")
+    println!(rt)
 }
 
-fn print_refused(number: u64, words: &[u64; 5]) -> bool {
-    io::write_all(STDOUT_FILENO, b"refused ");
-    io::print_decimal(STDOUT_FILENO, number);
-    print_values(words, values_of(number))
+fn print_refused(rt: &impl Print, number: u64, words: &[u64; 5]) -> io::Result<()> {
+    print!(rt; "refused {number}")?;
+    print_values(rt, words, values_of(number))
 }
 
 // Refusals for want of room are this program's, which the Rust has no counterpart for.
-fn print_run(number: u64, words: &[u64; 5]) -> bool {
+fn print_run(rt: &impl Print, number: u64, words: &[u64; 5]) -> io::Result<()> {
     if number == 0 {
-        io::write_all(STDOUT_FILENO, b"done");
-        return print_values(words, 5);
+        print!(rt; "done")?;
+        return print_values(rt, words, 5);
     }
     if (number == 6) | (number == 7) {
-        return print_too_large();
+        return print_too_large(rt);
     }
-    print_refused(number, words)
+    print_refused(rt, number, words)
 }
 
 // `validate`, five limits and an image: `admitted`, or `refused`, the refusal's number and its values.
-pub fn answer_validate(line: &[u8]) -> Answered {
+pub fn answer_validate(rt: &impl Print, line: &[u8]) -> Answered {
     let registers = next_number(line, 9, 0xffff);
     let functions = next_number(line, registers.at, 0xffff);
     let depth = next_number(line, functions.at, 0xffff);
@@ -86,13 +82,13 @@ pub fn answer_validate(line: &[u8]) -> Answered {
         &mut words,
     );
     if number == 0 {
-        return told(io::write_all(STDOUT_FILENO, b"admitted\n"));
+        return told(println!(rt; "admitted"));
     }
-    told(print_refused(number, &words))
+    told(print_refused(rt, number, &words))
 }
 
 // `run`, fuel, depth limit and an image: `done`, status, kind, payload, fuel used and digest; `refused` as above; or `too large`.
-pub fn answer_run(line: &[u8]) -> Answered {
+pub fn answer_run(rt: &impl Print, line: &[u8]) -> Answered {
     let fuel = next_number(line, 4, 0xffff_ffff_ffff_ffff);
     let depth = next_number(line, fuel.at, 0xffff);
     if !(fuel.good & depth.good) {
@@ -115,5 +111,5 @@ pub fn answer_run(line: &[u8]) -> Answered {
         &mut registers,
         &mut words,
     );
-    told(print_run(number, &words))
+    told(print_run(rt, number, &words))
 }
