@@ -5,9 +5,10 @@
 // status is 1.
 #![tactic(auto)]
 
-ghost use Rattle.std.specs.Prelude.{true, ◌≡◌, ◌-◌, ◌≤◌, length, take};
+ghost use Rattle.std.specs.Prelude.{true, ◌≡◌, ◌-◌, ◌<◌, ◌≤◌, length, take, drop, OnOk, IfSome};
+ghost use Rattle.std.specs.Io.KnownBytes.{Appends, Consumes, IsAtEnd};
 ghost use Rattle.text.specs.Line.{printed};
-ghost use Rattle.runner.specs.Reading.{Within};
+ghost use Rattle.runner.specs.Reading.{Within, IsHeld, IsPart, Takes};
 
 use arrayvec::ArrayString;
 use std::fmt::Write as _;
@@ -50,7 +51,8 @@ struct Held {
 
 // What a read answered for a buffer.
 fn part_of(moved: io::Result<usize>, buf: &[u8]) -> Part
-    ensures { Within (length buf.now) result }
+    ensures within { Within (length buf.now) result }
+    ensures part { IsPart (length buf.now) moved result }
 {
     match moved {
         Ok(0) => Part::End,
@@ -65,10 +67,11 @@ fn part_of(moved: io::Result<usize>, buf: &[u8]) -> Part
 }
 
 // One read behind the first `count` bytes, which stay.
-fn read_on(input: &mut impl Read, buf: &mut [u8], count: usize) -> Part
+fn read_on<R: Read>(input: &mut R, buf: &mut [u8], count: usize) -> Part
     requires { count ≤ length buf.old }
     ensures within { Within (length buf.new - count) result }
     ensures buf_unchanged { take count buf.new ≡ take count buf.old }
+    ensures taken { Takes (R.remaining input.old) (R.remaining input.new) (drop count buf.new) result }
 {
     let rest = &mut buf[count..];
     let moved = input.read(rest);
@@ -77,8 +80,10 @@ fn read_on(input: &mut impl Read, buf: &mut [u8], count: usize) -> Part
 
 // Reads until buf is full or the input ends. A pipe gives what it has, so one read is seldom all; a signal may come before any byte. A
 // proved loop ends, and nothing says that signals do: it counts down from a number that no run uses up.
-fn fill(input: &mut impl Read, buf: &mut [u8]) -> Input
-    ensures { result.count ≤ length buf.new }
+fn fill<R: Read>(input: &mut R, buf: &mut [u8]) -> Input
+    ensures in_bounds { result.count ≤ length buf.new }
+    ensures taken { Consumes (R.remaining input.old) (R.remaining input.new) (take result.count buf.new) }
+    ensures end { OnOk result.good (result.count < length buf.new → IsAtEnd (R.remaining input.new)) }
 {
     let mut count = 0;
     let mut turns = u64::MAX;
@@ -114,9 +119,10 @@ fn fill(input: &mut impl Read, buf: &mut [u8]) -> Input
 }
 
 // What came, and whether a byte came after it that image has no place for; that is looked for only where image is full.
-fn read_image(input: &mut impl Read, image: &mut [u8], next: &mut [u8]) -> Held
+fn read_image<R: Read>(input: &mut R, image: &mut [u8], next: &mut [u8]) -> Held
     ensures count_in_bounds { result.count ≤ length image.new }
     ensures count_value { result.more ≡ true → result.count ≡ length image.new }
+    ensures whole { OnOk result.good (0 < length next.old → IfSome (R.remaining input.old) (λ xs. IsHeld xs image.new result)) }
 {
     let first = fill(input, image);
     if first.good.is_err() {
@@ -152,7 +158,9 @@ fn answer(image: &[u8], more: bool, line: &mut [u8; LINE_BYTES]) -> usize
 }
 
 // Writes it all; a write may take a part, and a signal may come before any byte.
-fn write_line(output: &mut impl Write, line: &[u8]) -> io::Result<()> {
+fn write_line<W: Write>(output: &mut W, line: &[u8]) -> io::Result<()>
+    ensures { OnOk result (Appends (W.contents output.old) (W.contents output.new) line.now) }
+{
     output.write_all(line)
 }
 
