@@ -5,7 +5,7 @@
 // status is 1.
 #![tactic(auto)]
 
-ghost use Rattle.std.specs.Prelude.{true, ◌≡◌, ◌-◌, ◌<◌, ◌≤◌, length, take, drop, OnOk, IfSome};
+ghost use Rattle.std.specs.Prelude.{true, ◌≡◌, ◌-◌, ◌<◌, ◌≤◌, length, take, drop, OnOk, IfSome, nat_lt};
 ghost use Rattle.std.specs.Io.KnownBytes.{Appends, Consumes, IsAtEnd};
 ghost use Rattle.text.specs.Line.{printed};
 ghost use Rattle.runner.specs.Reading.{Within, IsHeld, IsPart, Takes};
@@ -47,6 +47,13 @@ struct Held {
     count: usize,
     more: bool,
     good: io::Result<()>,
+}
+
+// Why there is no answer: the input could not be read, or the line could not be written.
+#[derive(Clone, Copy)]
+enum Failure {
+    Unread(io::Error),
+    Unwritten(io::Error),
 }
 
 // What a read answered for a buffer.
@@ -179,20 +186,32 @@ fn fail(rt: &impl Eprint, what: &str, error: io::Error) {
     let _ = eprintln!(rt; "{what}: {}", words(text.as_str()));
 }
 
-fn main(rt: HostRuntime) -> ExitCode {
+// The line for the whole input: for its first bytes, as many as the runner holds, and whether there are more.
+fn print_answer<R: Read, W: Write>(input: &mut R, output: &mut W) -> Result<(), Failure>
+    ensures { OnOk result (IfSome (R.remaining input.old) (λ xs. Appends (W.contents output.old) (W.contents output.new)
+        (printed (take IMAGE_BYTES xs) (nat_lt IMAGE_BYTES (length xs))))) }
+{
     let mut image = [0u8; IMAGE_BYTES];
     let mut next = [0u8; 1];
-    let held = read_image(&mut rt.stdin(), &mut image, &mut next);
-    if let Err(e) = held.good {
-        fail(&rt, "runner: standard input", e);
-        return ExitCode::FAILURE;
+    let held = read_image(input, &mut image, &mut next);
+    match held.good {
+        Ok(()) => {}
+        Err(e) => return Err(Failure::Unread(e)),
     }
     let mut line = [0u8; LINE_BYTES];
     let n = held.count;
     let count = answer(&image[..n], held.more, &mut line);
-    if let Err(e) = write_line(&mut rt.stdout(), &line[..count]) {
-        fail(&rt, "runner: standard output", e);
-        return ExitCode::FAILURE;
+    match write_line(output, &line[..count]) {
+        Ok(()) => Ok(()),
+        Err(e) => Err(Failure::Unwritten(e)),
     }
-    ExitCode::SUCCESS
+}
+
+fn main(rt: HostRuntime) -> ExitCode {
+    match print_answer(&mut rt.stdin(), &mut rt.stdout()) {
+        Ok(()) => return ExitCode::SUCCESS,
+        Err(Failure::Unread(e)) => fail(&rt, "runner: standard input", e),
+        Err(Failure::Unwritten(e)) => fail(&rt, "runner: standard output", e),
+    }
+    ExitCode::FAILURE
 }
