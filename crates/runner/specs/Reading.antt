@@ -15,7 +15,7 @@ Within most (Failed e) = Unit {0}
 
 -- the part that a read's answer is, for a buffer of so many bytes
 abbrev pub IsPart : ℕ → Result ℕ Error → Part → Type 0
-IsPart most (Ok n) (Bytes k) = k ≡ min n most
+IsPart most (Ok n) (Bytes k) = (k ≡ min n most) × (0 < n)
 IsPart most (Ok n) End = n ≡ 0
 IsPart most (Ok n) Interrupted = ⊥
 IsPart most (Ok n) (Failed e) = ⊥
@@ -24,9 +24,10 @@ IsPart most (Err e) End = ⊥
 IsPart most (Err e) Interrupted = Unit {0}
 IsPart most (Err e) (Failed f) = f ≡ e
 
--- the input's bytes, where they are known, lose what now begins the rest of the buffer; it is at its end if a buffer with room got none
+-- the input's bytes, where they are known, lose what now begins the rest of the buffer; where that has room, a byte comes, or the input is
+-- at its end
 abbrev pub Takes : Option (List ℕ) → Option (List ℕ) → List ℕ → Part → Type 0
-Takes old new rest (Bytes n) = Consumes old new (take n rest)
+Takes old new rest (Bytes n) = Consumes old new (take n rest) × (0 < length rest → 0 < n)
 Takes old new rest End = Consumes old new [] × (0 < length rest → IsAtEnd new)
 Takes old new rest Interrupted = Keeps old new
 Takes old new rest (Failed e) = Keeps old new
