@@ -4,7 +4,7 @@ use mathlib.Core.Path.{◌≡◌, refl, sym, ap, ◌∙◌, subst}
 use mathlib.Core.List.{List}
 use native.Mathlib.Omega.{arith}
 use native.Mathlib.Nat.{add-zero, zero-add}
-use lib.ListN.{length, set, length-set}
+use lib.ListN.{length, set}
 use Rattle.image.specs.Program.{Program}
 use Rattle.image.specs.Parts.{length_of, code_of}
 use Rattle.straight.specs.declared.Went.TheVariants as went
@@ -20,7 +20,7 @@ use Rattle.exec.specs.Lent.{part, put, state, top_of}
 use Rattle.exec.specs.Step.{Stepped, stepped, step}
 use Rattle.exec.specs.Run.{Final, final, later, onward, run}
 use Rattle.exec.specs.Burst.{Halted, burst, Paused, paused, stretch, Turned, turned, acting, turn, Ready, Good, AtLeave}
-use Rattle.exec.proofs.Parts.{length_part, length-put, part_put}
+use Rattle.exec.proofs.Parts.{length_part, part_put}
 use Rattle.exec.proofs.Runs.{later_later, Running}
 use Rattle.exec.proofs.Keeps.{good_ready, moved_good, moved_ready, step_keeps}
 use Rattle.exec.proofs.Stretches.{Stop, burst_sound, resume, placed, top_at_lem, run_stretch}

@@ -1,6 +1,5 @@
 use mathlib.Core.Path.{◌∙◌}
 use Rattle.exec.proofs.Entry.{made_alone, enter_refused, enter_run}
-use borrow.Author.Rules.{rules}
 use Rattle.exec.proofs.enter.Goals as goal
 
 pub run-requires-clause-good : goal.run-requires-clause-good

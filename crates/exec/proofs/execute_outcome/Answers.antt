@@ -1,5 +1,4 @@
 use Rattle.exec.proofs.Whole.{formed, ends_fault, ends_run}
-use borrow.Author.Rules.{rules}
 use Rattle.exec.proofs.execute_outcome.Goals as goal
 
 pub enter-e-requires : goal.enter-e-requires

@@ -1,8 +1,6 @@
 use mathlib.Core.Path.{sym}
 use mathlib.Core.Path.{◌∙◌}
-use borrow.Author.Tests.{not-true, not-false}
 use Rattle.exec.proofs.Standing.{none_stands, top_falls, entry_stands, both_stand}
-use borrow.Author.Rules.{rules}
 use Rattle.exec.proofs.frame_stands.Goals as goal
 
 pub returns-then-d-eq0 : goal.returns-then-d-eq0

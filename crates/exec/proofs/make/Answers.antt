@@ -1,6 +1,5 @@
 use Rattle.exec.proofs.Facts.{header_entry, header_none, header_some, unknown, regs_are}
 use Rattle.exec.proofs.Entry.{made_none, made_frames, made_registers, made_frame}
-use borrow.Author.Rules.{rules}
 use Rattle.exec.proofs.make.Goals as goal
 
 pub returns-then-h-entry : goal.returns-then-h-entry

@@ -2,7 +2,6 @@ use mathlib.Core.Path.{◌∙◌}
 use Rattle.exec.proofs.Runs.{unit_fair}
 use Rattle.exec.proofs.Outer.{stretch_ready, stretch_leaves}
 use Rattle.exec.proofs.Single.{one_on, one_past, one_dry, one_fails, one_leaves}
-use borrow.Author.Rules.{rules}
 use Rattle.exec.proofs.one_step.Goals as goal
 
 pub leave-requires-clause-ready : goal.leave-requires-clause-ready

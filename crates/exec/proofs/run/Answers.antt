@@ -1,13 +1,5 @@
-use mathlib.Core.Path.{refl, sym}
-use native.Mathlib.Omega.{arith}
-use native.Mathlib.Nat.{sub_self}
-use Rattle.image.specs.Records.{form1}
-use Rattle.image.specs.Program.{decode}
-use Rattle.exec.specs.Price.{unit}
-use Rattle.exec.proofs.Runs.{unit_fair, later_zero, Running}
-use Rattle.exec.proofs.Keeps.{good_ready}
+use Rattle.exec.proofs.Runs.{unit_fair}
 use Rattle.exec.proofs.Outer.{turn_less, turn_within, turn_again, turn_ends}
-use borrow.Author.Rules.{rules}
 use Rattle.exec.proofs.run.Goals as goal
 
 pub overflow_sub-used : goal.overflow_sub-used

@@ -1,5 +1,4 @@
 use Rattle.exec.specs.Execute.{settled}
-use borrow.Author.Rules.{rules}
 use Rattle.exec.proofs.settle.Goals as goal
 
 pub returns-in-Done : goal.returns-in-Done

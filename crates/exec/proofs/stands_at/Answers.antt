@@ -4,7 +4,6 @@ use Rattle.image.specs.Records.{form1}
 use Rattle.image.proofs.Parts.{functions_length}
 use Rattle.exec.proofs.Facts.{unknown, regs_are}
 use Rattle.exec.proofs.Standing.{no_record, no_function_lem, no_registers, registers_fit}
-use borrow.Author.Rules.{rules}
 use Rattle.exec.proofs.stands_at.Goals as goal
 
 pub returns-then-frames-k : goal.returns-then-frames-k

@@ -1,7 +1,6 @@
 use mathlib.Core.Path.{sym, ◌∙◌}
 use Rattle.exec.proofs.Standing.{stands_ready}
 use Rattle.exec.proofs.Whole.{formed, found_fault, found_none, found_step}
-use borrow.Author.Rules.{rules}
 use Rattle.exec.proofs.step_once.Goals as goal
 
 pub frame_stands-requires : goal.frame_stands-requires

@@ -1,5 +1,4 @@
 use Rattle.exec.specs.Execute.{value_in}
-use borrow.Author.Rules.{rules}
 use Rattle.exec.proofs.value_in.Goals as goal
 
 pub returns-in-Value : goal.returns-in-Value

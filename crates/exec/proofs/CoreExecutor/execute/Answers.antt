@@ -1,7 +1,6 @@
 use mathlib.Core.Path.{ap, ◌∙◌}
 use Rattle.exec.specs.Execute.{trap_alone}
 use Rattle.exec.proofs.Whole.{settled_alone}
-use borrow.Author.Rules.{rules}
 use Rattle.exec.proofs.CoreExecutor.execute.Goals as goal
 
 pub returns : goal.returns

@@ -1,13 +1,7 @@
-use native.Mathlib.Omega.{arith}
-use borrow.Author.Rules.{rules}
-use mathlib.Core.Path.{refl, ◌∙◌}
-use Rattle.image.specs.Records.{form1}
-use Rattle.image.specs.Program.{decode}
-use Rattle.exec.specs.Price.{unit}
 use Rattle.exec.proofs.Runs.{unit_fair}
 use Rattle.exec.proofs.Facts.{count_is, code_room, instr_is}
 use Rattle.exec.proofs.Charged.{paid}
-use Rattle.exec.proofs.Bursts.{Bursting, stop_past, stop_dry, stop_fails, stop_leave, turn_on, turn_to, fuel_less}
+use Rattle.exec.proofs.Bursts.{stop_past, stop_dry, stop_fails, stop_leave, turn_on, turn_to, fuel_less}
 use Rattle.exec.proofs.burst.burst.Goals as goal
 
 pub returns-then-count-place : goal.returns-then-count-place

@@ -1,6 +1,5 @@
 use mathlib.Core.Path.{◌∙◌}
 use Rattle.image.proofs.Slices.{instr_in_slice}
-use borrow.Author.Rules.{rules}
 use Rattle.exec.proofs.burst.instr_of.Goals as goal
 
 pub returns-clause-value : goal.returns-clause-value

@@ -1,6 +1,4 @@
-use native.Mathlib.Omega.{arith}
-use Rattle.exec.proofs.Facts.{known, top_function, top_fits, top_moved, stretch_is}
-use borrow.Author.Rules.{rules}
+use Rattle.exec.proofs.Facts.{known, top_function, stretch_is}
 use Rattle.exec.proofs.burst.stretch.Goals as goal
 
 pub running-t-requires-clause-d_bound : goal.running-t-requires-clause-d_bound

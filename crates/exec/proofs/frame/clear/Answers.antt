@@ -1,10 +1,5 @@
 use native.Mathlib.Omega.{arith}
-use mathlib.Core.Path.{◌≡◌}
-use lib.Seq.{sets}
-use Prim.Native.Nat.{◌≤◌, ◌-◌}
-use lib.ListN.{length, replicate, length-set}
-use borrow.Author.Rules.{rules}
-use Rattle.exec.specs.Lent.{unit_word}
+use lib.ListN.{length-set}
 use Rattle.exec.proofs.Lists.{clear_more}
 use Rattle.exec.proofs.frame.clear.Goals as goal
 

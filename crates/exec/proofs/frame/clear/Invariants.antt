@@ -1,11 +1,8 @@
-use native.Mathlib.Omega.{arith}
 use mathlib.Core.Path.{◌≡◌}
 use lib.Seq.{sets}
 use Prim.Native.Nat.{◌≤◌, ◌-◌}
-use lib.ListN.{length, replicate, length-set}
-use borrow.Author.Rules.{rules}
+use lib.ListN.{length, replicate}
 use Rattle.exec.specs.Lent.{unit_word}
-use Rattle.exec.proofs.Lists.{clear_more}
 use Rattle.exec.proofs.frame.clear.Given as goal
 
 abbrev pub invariant-loop-i : goal.invariant-loop-i

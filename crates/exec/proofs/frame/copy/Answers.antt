@@ -1,9 +1,6 @@
 use native.Mathlib.Omega.{arith}
-use mathlib.Core.Path.{◌≡◌}
-use lib.Seq.{sets}
-use Prim.Native.Nat.{◌+◌, ◌≤◌, ◌-◌}
-use lib.ListN.{length, take, drop, length-set}
-use borrow.Author.Rules.{rules}
+use Prim.Native.Nat.{◌+◌, ◌≤◌}
+use lib.ListN.{length-set}
 use Rattle.exec.proofs.Lists.{copy_more}
 use Rattle.exec.proofs.frame.copy.Goals as goal
 

@@ -1,6 +1,5 @@
 use mathlib.Core.Path.{◌∙◌}
 use Rattle.image.proofs.Slices.{function_in_slice}
-use borrow.Author.Rules.{rules}
 use Rattle.exec.proofs.frame.function_of.Goals as goal
 
 pub returns : goal.returns

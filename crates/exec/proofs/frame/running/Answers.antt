@@ -1,5 +1,4 @@
 use Rattle.exec.proofs.Facts.{regs_are}
-use borrow.Author.Rules.{rules}
 use Rattle.exec.proofs.frame.running.Goals as goal
 
 pub returns : goal.returns

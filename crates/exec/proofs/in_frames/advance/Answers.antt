@@ -1,7 +1,6 @@
 use native.Mathlib.Omega.{arith}
 use Rattle.exec.proofs.Seen.{shown_least}
 use Rattle.exec.proofs.Advanced.{on_size, over_fuel, on_onward, over_onward}
-use borrow.Author.Rules.{rules}
 use Rattle.exec.proofs.in_frames.advance.Goals as goal
 
 pub depth_with-grown-requires : goal.depth_with-grown-requires

@@ -1,6 +1,5 @@
 use Rattle.exec.proofs.Whole.{formed}
 use Rattle.exec.proofs.Entering.{fault_begins, image_begins}
-use borrow.Author.Rules.{rules}
 use Rattle.exec.proofs.in_frames.begin.Goals as goal
 
 pub enter-requires : goal.enter-requires

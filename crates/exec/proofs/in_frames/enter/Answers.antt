@@ -1,8 +1,5 @@
-use mathlib.Core.Path.{sym}
 use mathlib.Core.List.{[]}
-use native.Mathlib.Omega.{arith}
-use Rattle.exec.proofs.Entering.{blank_length, back_length, refused_enters, made_enters}
-use borrow.Author.Rules.{rules}
+use Rattle.exec.proofs.Entering.{refused_enters, made_enters}
 use Rattle.exec.proofs.in_frames.enter.Goals as goal
 
 pub returns-in-Go : goal.returns-in-Go

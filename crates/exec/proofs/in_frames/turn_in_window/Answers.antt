@@ -1,8 +1,7 @@
 use native.Mathlib.Omega.{arith}
-use mathlib.Core.Path.{sym, ◌∙◌}
+use mathlib.Core.Path.{◌∙◌}
 use lib.Seq.{length-sets, length-take-le}
-use Rattle.exec.proofs.Seen.{shown_least, lent_words, window_ready, window_turned}
-use borrow.Author.Rules.{rules}
+use Rattle.exec.proofs.Seen.{lent_words, window_ready, window_turned}
 use Rattle.exec.proofs.in_frames.turn_in_window.Goals as goal
 
 pub turn-requires-clause-ready : goal.turn-requires-clause-ready

@@ -1,11 +1,8 @@
-use native.Mathlib.Omega.{arith}
 use mathlib.Core.Path.{sym, ◌∙◌}
-use borrow.Author.Tests.{not-true, not-false}
 use Rattle.image.specs.Records.{form1}
 use Rattle.image.proofs.Parts.{functions_length}
 use Rattle.exec.proofs.Facts.{unknown, regs_are}
 use Rattle.exec.proofs.Leaving.{call_deep, call_unknown, call_window, call_frames, call_registers, call_push}
-use borrow.Author.Rules.{rules}
 use Rattle.exec.proofs.leave.call.Goals as goal
 
 pub returns-then-most-d : goal.returns-then-most-d

@@ -1,8 +1,6 @@
-use native.Mathlib.Omega.{arith}
 use mathlib.Core.Path.{refl}
 use Rattle.exec.proofs.Facts.{known}
-use Rattle.exec.proofs.Leaving.{hand_fits, hand_on, hand_no}
-use borrow.Author.Rules.{rules}
+use Rattle.exec.proofs.Leaving.{hand_on, hand_no}
 use Rattle.exec.proofs.leave.hand_over.Goals as goal
 
 pub running-below-requires-clause-d_bound : goal.running-below-requires-clause-d_bound

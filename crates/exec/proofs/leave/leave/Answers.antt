@@ -1,6 +1,5 @@
 use native.Mathlib.Omega.{arith}
 use Rattle.exec.proofs.Facts.{known, top_function, top_fits, count_is, code_room, instr_is, at_inside, leave_call, leave_ret}
-use borrow.Author.Rules.{rules}
 use Rattle.exec.proofs.leave.leave.Goals as goal
 
 pub function_of-f-requires-clause-k_bound : goal.function_of-f-requires-clause-k_bound

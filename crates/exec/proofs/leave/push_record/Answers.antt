@@ -1,5 +1,4 @@
 use Rattle.exec.specs.Step.{pushed_frames}
-use borrow.Author.Rules.{rules}
 use Rattle.exec.proofs.leave.push_record.Goals as goal
 
 pub returns : goal.returns

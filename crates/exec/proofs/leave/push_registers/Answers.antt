@@ -2,7 +2,6 @@ use native.Mathlib.Omega.{arith}
 use Prim.Native.Nat.{◌+◌}
 use Rattle.exec.specs.Step.{pushed_regs}
 use Rattle.exec.proofs.Lists.{push_regs}
-use borrow.Author.Rules.{rules}
 use Rattle.exec.proofs.leave.push_registers.Goals as goal
 
 pub returns : goal.returns

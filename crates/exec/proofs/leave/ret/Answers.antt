@@ -1,7 +1,4 @@
-use native.Mathlib.Omega.{arith}
-use Rattle.exec.proofs.Facts.{top_fits}
 use Rattle.exec.proofs.Leaving.{ret_hand, ret_ends, ret_no}
-use borrow.Author.Rules.{rules}
 use Rattle.exec.proofs.leave.ret.Goals as goal
 
 pub returns-then-d-gt1 : goal.returns-then-d-gt1

@@ -1,10 +1,6 @@
-use mathlib.Core.Bool.{true≢false}
-use mathlib.Core.Path.{sym}
-use native.Mathlib.Omega.{arith}
-use borrow.Author.Tests.{eq-eqb, ne_eqb, lt-leb, le-leb, leb-true}
+use borrow.Author.Tests.{eq-eqb, ne_eqb, lt-leb, le-leb}
 use borrow.Author.Tests.{eq-eqb, ne_eqb, lt-leb, le-leb}
 use Rattle.exec.specs.Step.{window_fits}
-use borrow.Author.Rules.{rules}
 use Rattle.exec.proofs.leave.window_fits.Goals as goal
 
 pub returns-then-count-eq0-clause-value : goal.returns-then-count-eq0-clause-value

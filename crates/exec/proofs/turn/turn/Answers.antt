@@ -1,6 +1,5 @@
 use Rattle.exec.proofs.Runs.{unit_fair}
 use Rattle.exec.proofs.Outer.{stretch_ready, stretch_leaves, turn_by, turn_leaves}
-use borrow.Author.Rules.{rules}
 use Rattle.exec.proofs.turn.turn.Goals as goal
 
 pub leave-step-requires-clause-ready : goal.leave-step-requires-clause-ready
