@@ -1,5 +1,5 @@
-// The functions that programs in C, Rust and Python call; include/knitcauldron.h declares them. Each takes its arguments apart, calls
-// one proved function and writes the answer's words.
+// The functions that programs in C, Rust and Python call, by way of capi_c, whose exports of the same names hand on to them;
+// include/knitcauldron.h declares these. Each takes its arguments apart, calls one proved function and writes the answer's words.
 #![tactic(auto)]
 
 ghost use Rattle.std.specs.Prelude.{◌≡◌};
@@ -120,8 +120,7 @@ fn of_event_id(id: EventId) -> Answer
     }
 }
 
-#[unsafe(no_mangle)]
-pub extern "C" fn knit_validate(
+pub fn knit_validate(
     image: &[u8],
     max_registers: u16,
     max_functions: u16,
@@ -144,8 +143,7 @@ pub extern "C" fn knit_validate(
     r.number
 }
 
-#[unsafe(no_mangle)]
-pub extern "C" fn knit_execute(
+pub fn knit_execute(
     image: &[u8],
     fuel: u64,
     max_call_depth: u16,
@@ -167,20 +165,13 @@ pub extern "C" fn knit_execute(
     r.number
 }
 
-#[unsafe(no_mangle)]
-pub extern "C" fn knit_digest(status: u64, kind: u64, payload: u64, fuel_used: u64) -> u64
+pub fn knit_digest(status: u64, kind: u64, payload: u64, fuel_used: u64) -> u64
     ensures { result ≡ digested status kind payload fuel_used }
 {
     digest_words(status, kind, payload, fuel_used)
 }
 
-#[unsafe(no_mangle)]
-pub extern "C" fn knit_event_id(
-    lesson: u32,
-    digest: u64,
-    out: &mut [u8],
-    answer: &mut [u64; 5],
-) -> u64
+pub fn knit_event_id(lesson: u32, digest: u64, out: &mut [u8], answer: &mut [u64; 5]) -> u64
     ensures { naming result answer.new out.new ≡ named (identification lesson digest out.old) }
 {
     let r = of_event_id(event_id(lesson, digest, out));
