@@ -45,7 +45,7 @@ outcome_numbers (RegisterRoom used) = 7 ∷ used ∷ []
 
 -- ---- how a run ended
 -- the value that a register word holds. A word that holds none counts as Unit; no execution of a well-formed image hands one back
--- (safety/proofs/WellFormed: value-returned)
+-- (safety/proofs/WellFormed: value_returned)
 unfoldable pub value_in : WordFound → CoreValue
 value_in (Value v) = v
 value_in NoValue = Unit
