@@ -1,5 +1,4 @@
 use Rattle.capi.proofs.Words.{names}
-use borrow.Author.Rules.{rules}
 use Rattle.capi.proofs.knit_event_id.Goals as goal
 
 pub returns : goal.returns

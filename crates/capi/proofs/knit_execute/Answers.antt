@@ -1,5 +1,4 @@
 use Rattle.capi.proofs.Words.{crosses}
-use borrow.Author.Rules.{rules}
 use Rattle.capi.proofs.knit_execute.Goals as goal
 
 pub returns : goal.returns

@@ -1,7 +1,6 @@
 use mathlib.Core.Path.{ap, ◌∙◌}
 use Rattle.capi.specs.Boundary.{answer_of, with_digest}
 use Rattle.capi.proofs.Words.{fault_alone}
-use borrow.Author.Rules.{rules}
 use Rattle.capi.proofs.of_outcome.Goals as goal
 
 pub returns-in-Image : goal.returns-in-Image

@@ -1,5 +1,4 @@
 use Rattle.capi.specs.Boundary.{with_digest}
-use borrow.Author.Rules.{rules}
 use Rattle.capi.proofs.of_result.Goals as goal
 
 pub returns : goal.returns

@@ -1,7 +1,6 @@
 use Prim.Native.Nat.{◌+◌, ◌-◌}
 use native.Mathlib.Omega.{arith}
-use Rattle.text.proofs.Widths.{Counting, count_begin, count_more, count_end}
-use borrow.Author.Rules.{rules}
+use Rattle.text.proofs.Widths.{count_begin, count_more, count_end}
 use Rattle.text.proofs.digits.decimal_width.Goals as goal
 
 pub loop-rest-init : goal.loop-rest-init

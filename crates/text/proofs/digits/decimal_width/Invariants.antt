@@ -1,7 +1,5 @@
-use Prim.Native.Nat.{◌+◌, ◌-◌}
-use native.Mathlib.Omega.{arith}
-use Rattle.text.proofs.Widths.{Counting, count_begin, count_more, count_end}
-use borrow.Author.Rules.{rules}
+use Prim.Native.Nat.{◌-◌}
+use Rattle.text.proofs.Widths.{Counting}
 use Rattle.text.proofs.digits.decimal_width.Given as goal
 
 abbrev pub invariant-loop-rest : goal.invariant-loop-rest

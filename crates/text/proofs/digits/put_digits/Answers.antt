@@ -1,12 +1,10 @@
-use mathlib.Core.Path.{◌≡◌, refl, sym, subst, ◌∙◌}
+use mathlib.Core.Path.{◌≡◌, sym, subst, ◌∙◌}
 use native.Mathlib.Omega.{arith}
-use native.Mathlib.Nat.{mod-lt}
-use Prim.Native.Nat.{ℕ, suc, ◌+◌, ◌-◌, ◌≤◌, ◌%◌, ◌/◌}
-use lib.ListN.{length, set, length-set}
+use Prim.Native.Nat.{ℕ, suc, ◌+◌, ◌-◌, ◌%◌, ◌/◌}
+use lib.ListN.{set, length-set}
 use lib.Seq.{sets}
 use Rattle.text.specs.Digits.{digit, digits}
 use Rattle.text.proofs.Stores.{digit_put}
-use borrow.Author.Rules.{rules}
 use Rattle.text.proofs.digits.put_digits.Goals as goal
 
 pub loop-left-preserved : goal.loop-left-preserved

@@ -1,6 +1,5 @@
 use native.Mathlib.Omega.{arith}
 use Rattle.text.proofs.Texts.{field_put, length-decimal}
-use borrow.Author.Rules.{rules}
 use Rattle.text.proofs.digits.put_field.Goals as goal
 
 pub returns-clause-out_after : goal.returns-clause-out_after

@@ -1,10 +1,6 @@
-use mathlib.Core.Path.{◌≡◌, refl, ◌∙◌}
 use native.Mathlib.Omega.{arith}
-use Prim.Native.Nat.{◌-◌, ◌≤◌}
-use lib.ListN.{length, take, length-set}
-use lib.Seq.{sets}
-use Rattle.text.proofs.Stores.{word_more, word_all}
-use borrow.Author.Rules.{rules}
+use lib.ListN.{length-set}
+use Rattle.text.proofs.Stores.{word_more}
 use Rattle.text.proofs.digits.put_word.Goals as goal
 
 pub loop-i-preserved : goal.loop-i-preserved

@@ -1,10 +1,7 @@
-use mathlib.Core.Path.{◌≡◌, refl, ◌∙◌}
-use native.Mathlib.Omega.{arith}
+use mathlib.Core.Path.{◌≡◌}
 use Prim.Native.Nat.{◌-◌, ◌≤◌}
-use lib.ListN.{length, take, length-set}
+use lib.ListN.{length, take}
 use lib.Seq.{sets}
-use Rattle.text.proofs.Stores.{word_more, word_all}
-use borrow.Author.Rules.{rules}
 use Rattle.text.proofs.digits.put_word.Given as goal
 
 abbrev pub invariant-loop-i : goal.invariant-loop-i

@@ -1,5 +1,4 @@
 use Rattle.text.proofs.Texts.{id_put, id_none}
-use borrow.Author.Rules.{rules}
 use Rattle.text.proofs.event.event_id.Goals as goal
 
 pub returns-then-out-lt-EVENT_ID_BYTES : goal.returns-then-out-lt-EVENT_ID_BYTES

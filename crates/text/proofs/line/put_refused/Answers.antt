@@ -1,6 +1,5 @@
 use native.Mathlib.Omega.{arith}
 use Rattle.text.proofs.Texts.{owes_refused, owes_field, owes_end}
-use borrow.Author.Rules.{rules}
 use Rattle.text.proofs.line.put_refused.Goals as goal
 
 pub returns : goal.returns

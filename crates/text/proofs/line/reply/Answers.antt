@@ -1,5 +1,4 @@
 use Rattle.text.proofs.Texts.{reply_long, reply_run}
-use borrow.Author.Rules.{rules}
 use Rattle.text.proofs.line.reply.Goals as goal
 
 pub returns-then-more-clause-registers_after : goal.returns-then-more-clause-registers_after
