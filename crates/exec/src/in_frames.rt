@@ -1,8 +1,8 @@
 // `execute_outcome` over frame records that the caller lends as structs: the same answers and the same records as over words.
 //
-// Every function that has the records, or passes them on, is proved by hand. So there are three of them here, and they are thin. What a
-// run does is done by functions that take records by value: a turn reads the running frame's record and the one below it, and writes
-// the running frame's and the one above it, so it is the word form's own turn on a window of three records.
+// Three functions here have the records or pass them on, and they are thin. What a run does is done by functions that take records by
+// value: a turn reads the running frame's record and the one below it, and writes the running frame's and the one above it, so it is
+// the word form's own turn on a window of three records.
 ghost use Rattle.std.specs.Prelude.{◌≡◌, ◌+◌, ◌*◌, ◌-◌, ◌≤◌, eqb, length, take, replicate};
 ghost use Rattle.basis.specs.Choice.{pick};
 ghost use Rattle.image.specs.Records.{form1};

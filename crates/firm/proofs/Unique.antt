@@ -318,7 +318,7 @@ one·exec::config::CoreConfig::engine_policy κs a x y e f p q = p ∙ sym q
 pub one·exec::config::CoreConfig::with_engine_policy : (κs : _) (a : _) → One (exec::config::CoreConfig::with_engine_policy.Learnt κs a)
 one·exec::config::CoreConfig::with_engine_policy κs a x y e f p q = p ∙ sym q
 
--- ---- the functions that are proved by hand
+-- ---- the functions whose contracts specs/Walked has
 pub «one·runtime::FuelMeter::consume» : (κs : _) (a : _) → OneAnd (λ e. e.0.now) («tells·runtime::FuelMeter::consume» κs a)
 «one·runtime::FuelMeter::consume» κs a x y e f p q = (charge_unique x y (p.0 ∙ sym q.0), λ i. record { remaining = (p.1 ∙ sym q.1) i })
 

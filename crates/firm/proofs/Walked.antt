@@ -1,4 +1,4 @@
--- What the contracts of the functions that are proved by hand tell is what their clauses say. Assumes nothing.
+-- What is written out of four contracts in specs/Walked is what their clauses say. Assumes nothing.
 use mathlib.Core.Path.{◌≡◌, refl}
 use seplogic.Ra.Ura.{Ura}
 use base.Logic.{SProp}

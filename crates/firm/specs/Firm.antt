@@ -1,5 +1,5 @@
 -- How firm a contract is. `tells x e` is what a contract tells of the answer x and of the parameters at exit e, for given arguments,
--- as the toolchain reads it off the function's own text; for a function that it does not cover, as specs/Walked has it.
+-- as the toolchain reads it off the function's own text; for four functions as specs/Walked has it.
 use Rattle.std.specs.Prelude.{◌≡◌}
 use Rattle.value.specs.declared.result.CoreResult.{CoreResult}
 use Rattle.value.specs.Value.{Held}

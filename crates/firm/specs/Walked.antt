@@ -1,6 +1,5 @@
--- What the contracts of the functions that are proved by hand tell, for given arguments, of an answer and of the parameters at exit. The
--- toolchain reads this off for the functions that it covers; proofs/Walked shows that what is written here is what the contract's own
--- clause says.
+-- What the contracts of four functions tell, for given arguments, of an answer and of the parameters at exit, written out. Of the others
+-- the toolchain reads it off; proofs/Walked shows that what is written here is what the contract's own clause says.
 use Rattle.std.specs.Prelude.{◌≡◌, set}
 use contract.Lifetimes.{Lfts}
 use denote.Triple.Entry.{Args, Res}

@@ -1,6 +1,5 @@
 // A frame's record as a struct, and the two functions that read and store one record of a slice of them: the form in which the Rust's
-// `Vec<ExecFrame>` is lent to `execute_outcome_in_frames`. Whoever passes such a slice on is proved by hand, so everything else takes
-// records by value.
+// `Vec<ExecFrame>` is lent to `execute_outcome_in_frames`. Everything else takes records by value.
 #![tactic(auto)]
 
 ghost use Rattle.std.specs.Prelude.{◌≡◌, set};
