@@ -13,6 +13,7 @@ pub enum EventId {
 }
 
 // It takes the first bytes of what is lent, and nothing where that is too short.
+#[tactic(auto, using(crate::proofs::Texts::id_none))]
 pub fn event_id(lesson: u32, digest: u64, out: &mut [u8]) -> EventId
     ensures { identified (id_numbers result) out.new ≡ identification lesson digest out.old }
 {
