@@ -68,6 +68,7 @@ impl CoreValidation {
 }
 
 // The profile, then the program as a whole, then its functions in order.
+#[tactic(auto, using(crate::proofs::Programs::header_empty, crate::proofs::Programs::header_too_many, crate::proofs::Programs::header_no_entry, crate::proofs::Programs::header_functions))]
 fn program_fault(image: &[u8], profile: CoreAdmissionProfile) -> CoreValidation
     ensures { verdict_numbers result ≡ program_fault profile (decode form1 image.now) }
 {

@@ -52,6 +52,7 @@ fn layout_holds(h: Header, len: usize) -> bool
 }
 
 // The first of the functions that is wrong, or their number where only the sum is.
+#[tactic(auto, using(crate::proofs::Checks::row_spare))]
 fn table_fault(image: &[u8], functions: u32, instructions: u32) -> ImageCheck
     ensures { check_numbers result ≡ table_fault image.now functions instructions }
 {
@@ -130,6 +131,7 @@ fn record_fault(image: &[u8], functions: u32, instructions: u32) -> ImageCheck
     ImageCheck::Fine
 }
 
+#[tactic(auto, using(crate::proofs::Checks::at_form))]
 pub fn check_image(image: &[u8]) -> ImageCheck
     ensures { check_numbers result ≡ image_fault form1 image.now }
 {

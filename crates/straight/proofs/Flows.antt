@@ -3,15 +3,18 @@ use Prim.Native.Nat.{ℕ, ◌≤◌, ◌<◌}
 use mathlib.Core.Path.{◌≡◌, ap}
 use mathlib.Core.List.{List}
 use native.Mathlib.Omega.{arith}
-use borrow.Author.Tests.{lt-ltb, le-ltb, ne_eqb}
+use borrow.Author.Tests.{lt-ltb, le-ltb, eq-eqb, ne_eqb}
+use Rattle.runtime.specs.declared.CoreTrap.TheVariants.{AssertFailed}
+use Rattle.value.specs.Value.{bool_kind}
 use Rattle.instr.specs.declared.Instr.{Instr}
 use Rattle.operate.specs.declared.Outcome.{Outcome}
-use Rattle.operate.specs.Operate.{operated}
+use Rattle.operate.specs.declared.read.Read.TheVariants.{Payload}
+use Rattle.operate.specs.Operate.{read_as, operated}
 use Rattle.straight.specs.declared.Deed.{Deed}
-use Rattle.straight.specs.declared.Deed.TheVariants.{Leave}
+use Rattle.straight.specs.declared.Deed.TheVariants.{Next, Trap, Leave}
 use Rattle.straight.specs.Flow.{Flow, flow_of}
 use Rattle.straight.specs.Flow.Flow.{leaves}
-use Rattle.straight.specs.Straight.{storing, asked, asks}
+use Rattle.straight.specs.Straight.{storing, on_condition, asked, asks}
 
 -- no number above the jumps stays in its frame
 pub leaves_flow : (op : ℕ) → 54 ≤ op → leaves ≡ flow_of op
@@ -38,3 +41,13 @@ module _ (op : ℕ) (i : Instr) (win : List ℕ) where
   pub leaving : 54 ≤ op → Leave ≡ asks op i win
   unfolding asked
   leaving h = ap (λ (f : Flow). asked f op i win) (leaves_flow op h)
+
+-- an Assert of a condition that was read
+module _ (i : Instr) (win : List ℕ) (b : ℕ) (read : Payload b ≡ read_as bool_kind win i.a) where
+  pub asserts_false : b ≡ 0 → Trap AssertFailed ≡ asks 2 i win
+  unfolding flow_of asked on_condition
+  asserts_false z = rw (← read, eq-eqb _ _ z)
+
+  pub asserts_true : (b ≡ 0 → ⊥) → Next ≡ asks 2 i win
+  unfolding flow_of asked on_condition
+  asserts_true n = rw (← read, ne_eqb _ _ n)

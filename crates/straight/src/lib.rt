@@ -45,6 +45,7 @@ fn to_store(x: Outcome) -> Deed
 }
 
 // Assert.
+#[tactic(auto, using(crate::proofs::Flows::asserts_false, crate::proofs::Flows::asserts_true))]
 fn assert(i: Instr, win: &[u64]) -> Deed
     ensures { result ≡ asks 2 i win.now }
 {

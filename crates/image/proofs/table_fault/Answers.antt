@@ -2,21 +2,18 @@ use mathlib.Core.Path.{◌≡◌, refl}
 use native.Mathlib.Omega.{arith}
 use Rattle.basis.proofs.First.{first_none}
 use Rattle.image.specs.Records.{start_of}
-use Rattle.image.proofs.Checks.{row_right, start_next, row_spare, row_apart, sum_wrong, sum_right}
+use Rattle.image.proofs.Checks.{row_right, start_next, row_apart, sum_wrong, sum_right}
 use Rattle.image.proofs.table_fault.Goals as goal
 
 pub loop-k-init : goal.loop-k-init
 unfolding start_of
 loop-k-init c = (omega arith, refl, first_none _)
 
-pub returns-then-f-ne0 : goal.returns-then-f-ne0
-returns-then-f-ne0 c = row_spare _ _ _ _ c.function_at-f.ensures c.loop-k.invariant.1 c.loop-k.invariant.2 _ _ (omega arith) c.if-f-ne0.true
-
 pub returns-then-f-start : goal.returns-then-f-start
-returns-then-f-start c = row_apart _ _ _ _ c.function_at-f.ensures c.loop-k.invariant.1 c.loop-k.invariant.2 _ _ (omega arith) c.if-f-ne0.false c.if-f-start.true
+returns-then-f-start c = row_apart _ _ _ _ c.function_at-f.ensures c.loop-k.invariant.1 c.loop-k.invariant.2 _ _ (omega arith) (omega arith) c.if-f-start.true
 
 pub loop-k-preserved : goal.loop-k-preserved
-loop-k-preserved c = (omega arith, start_next _ _ _ _ c.function_at-f.ensures c.loop-k.invariant.1 c.loop-k.invariant.2 c.if-f-start.false, row_right _ _ _ _ c.function_at-f.ensures c.loop-k.invariant.1 c.loop-k.invariant.2 c.if-f-ne0.false c.if-f-start.false)
+loop-k-preserved c = (omega arith, start_next _ _ _ _ c.function_at-f.ensures c.loop-k.invariant.1 c.loop-k.invariant.2 c.if-f-start.false, row_right _ _ _ _ c.function_at-f.ensures c.loop-k.invariant.1 c.loop-k.invariant.2 (omega arith) c.if-f-start.false)
 
 pub returns-then-start-instructions : goal.returns-then-start-instructions
 returns-then-start-instructions c = let e : c.loop-k.k ≡ c.args.functions = omega arith in
