@@ -39,8 +39,8 @@ module _ (xs : List ℕ) (a k : ℕ) (fits : a + k ≤ length xs) where
       rw (f, g, h)
 
   -- read and stored through the part is read and stored in the whole
-  pub get_d_part : (r : ℕ) → r < k → get_or (part xs a k) r 0 ≡ get_or xs (a + r) 0
-  get_d_part r h = get_or-take k (drop a xs) r 0 h ∙ get_or-drop a xs r 0
+  pub get_or-part : (r : ℕ) → r < k → get_or (part xs a k) r 0 ≡ get_or xs (a + r) 0
+  get_or-part r h = get_or-take k (drop a xs) r 0 h ∙ get_or-drop a xs r 0
 
   pub put_set : (r v : ℕ) → r < k → put xs a k (set (part xs a k) r v) ≡ set xs (a + r) v
   put_set r v h =

@@ -23,7 +23,7 @@ use Rattle.exec.specs.Step.{moved, pushed_frames, pushed_regs, next_instr, step,
 use Rattle.exec.specs.Run.{run}
 use Rattle.exec.specs.Execute.{entry_state, entered}
 use Rattle.exec.specs.Burst.{Window}
-use Rattle.exec.proofs.Parts.{length_part, length-put, get_d_part, put_low, put_in, put_high}
+use Rattle.exec.proofs.Parts.{length_part, length-put, get_or-part, put_low, put_in, put_high}
 use Rattle.exec.proofs.Lists.{get_or-sets_below, get_or-sets_in, get_or-sets_above, take_len}
 use Rattle.course.specs.Course.{after, charged, Stop, Course}
 use Rattle.course.specs.Course.Stop.{past, dry, acts}
@@ -123,7 +123,7 @@ module _ (p : Program) (s : State) (h : Valued p s) where
   window_holds : HoldValues (window p s)
   window_holds r l =
       let k : r < (top_at p s).limit = rw wide at l in
-      rw (get_d_part s.regs (top_at p s).first (top_at p s).limit lies r k) (h.values ((top_at p s).first + r) (omega (arith, fits)))
+      rw (get_or-part s.regs (top_at p s).first (top_at p s).limit lies r k) (h.values ((top_at p s).first + r) (omega (arith, fits)))
 
   -- ---- inside the frame
   moved_valued : (n : ℕ) (w : List ℕ) → length w ≡ (top_at p s).limit → HoldValues w → Valued p (moved s (top_at p s) n w)

@@ -10,7 +10,7 @@ use lib.ListN.{length, get_or, set, length-set}
 use lib.Seq.{sets, get_or-set_same, get_or-set_other, length-sets, ext_get_or}
 use borrow.Author.Tests.{ltb-true, ltb-false, eqb-true, eqb-false}
 use Rattle.exec.specs.Lent.{part, put}
-use Rattle.exec.proofs.Parts.{length_part, length-put, get_d_part, put_low, put_in, put_high}
+use Rattle.exec.proofs.Parts.{length_part, length-put, get_or-part, put_low, put_in, put_high}
 use Rattle.exec.proofs.Lists.{get_or-sets_in}
 use Rattle.twins.specs.Twins.{Agree}
 
@@ -25,7 +25,7 @@ part_same n xs ys a k h l =
     let fy : a + k ≤ length ys = omega (arith, h.right) in
     ext_get_or 0 (part ys a k) (part xs a k) (length_part ys a k fy ∙ sym (length_part xs a k fx)) (λ i q.
     let r : i < k = rw (length_part ys a k fy) at q in
-    get_d_part ys a k fy i r ∙ sym (h.words (a + i) (omega arith)) ∙ sym (get_d_part xs a k fx i r))
+    get_or-part ys a k fy i r ∙ sym (h.words (a + i) (omega arith)) ∙ sym (get_or-part xs a k fx i r))
 
 -- ---- one store
 store_word : (xs ys : List ℕ) (a v j : ℕ) → a < length xs → a < length ys → get_or xs j 0 ≡ get_or ys j 0 → get_or (set xs a v) j 0 ≡ get_or (set ys a v) j 0
