@@ -7,6 +7,7 @@ use mathlib.Core.Logic.{◌↔◌, ⊎_elim}
 use native.Mathlib.Nat.{eq-or-lt_of_le, le_of_suc-le-suc, not-suc-le-zero}
 use native.Mathlib.Omega.{arith}
 use lib.Dec.{eqb}
+use Rattle.std.specs.Prelude.{Result, Ok}
 use Rattle.basis.specs.Answers.{under}
 use Rattle.basis.proofs.Says.{Says, Tests, says_always, says_demand, says_both, says_each, tests_both, tests_lt, tests_le, tests_eq}
 use Rattle.runtime.specs.Profile.{profile_fault, Usable}
@@ -21,8 +22,7 @@ use Rattle.image.specs.Program.{Program, decode}
 use Rattle.image.proofs.Agree.{well_formed}
 use Rattle.image.specs.Parts.{functions_of, regs_of, length_of, code_of, Ret}
 use Rattle.admission.specs.Verdict.{verdict_numbers, register_fault, jump_fault, call_fault, window_fault, field_fault, fields_fault, instr_fault, returns_before, code_fault, function_fault, program_fault, verdict}
-use Rattle.admission.specs.declared.CoreValidation.{CoreValidation}
-use Rattle.admission.specs.declared.CoreValidation.TheVariants.{Admitted}
+use Rattle.admission.specs.declared.CoreValidationError.{CoreValidationError}
 use Rattle.admission.proofs.Unique.{verdict_unique}
 use Rattle.admission.specs.Admissible.{Allowed, Operands, FunctionRule, Admissible}
 
@@ -104,11 +104,11 @@ pub admitted : (L : RecordLayout) (s : List ℕ) (profile : CoreAdmissionProfile
 unfolding verdict
 admitted L s profile = says_both _ _ (well_formed L s) (says_program profile (decode L s))
 
--- the same of the verdict itself: whatever meets the promise of `validate_program` is Admitted exactly there
-pub admits : (L : RecordLayout) (s : List ℕ) (profile : CoreAdmissionProfile) (v : CoreValidation) → verdict_numbers v ≡ verdict L s profile → (v ≡ Admitted) ↔ (WellFormed L s × Admissible profile (decode L s))
+-- the same of the verdict itself: whatever meets the promise of `validate_program` is Ok exactly there
+pub admits : (L : RecordLayout) (s : List ℕ) (profile : CoreAdmissionProfile) (v : Result Unit CoreValidationError) → verdict_numbers v ≡ verdict L s profile → (v ≡ Ok tt) ↔ (WellFormed L s × Admissible profile (decode L s))
 admits L s profile v e =
     let a = admitted L s profile in
-    (λ q. a.0 (sym e ∙ ap verdict_numbers q), λ x. verdict_unique v Admitted (e ∙ a.1 x))
+    (λ q. a.0 (sym e ∙ ap verdict_numbers q), λ x. verdict_unique v (Ok tt) (e ∙ a.1 x))
 
 -- on well-formed images the verdict depends on the decoded program and the profile alone, whatever the layouts are
 pub same_program : (L M : RecordLayout) (s t : List ℕ) (profile : CoreAdmissionProfile) → WellFormed L s → WellFormed M t → decode L s ≡ decode M t → verdict L s profile ≡ verdict M t profile

@@ -3,102 +3,104 @@
 #![tactic(auto)]
 
 ghost use Rattle.std.specs.Prelude.{◌≡◌};
-ghost use Rattle.basis.specs.Answers.{or_else, is_fine};
 ghost use Rattle.image.specs.Records.{form1};
 ghost use Rattle.image.specs.Program.{decode};
+ghost use Rattle.admission.specs.declared.CoreValidationError.TheVariants.{Image, Profile};
 ghost use Rattle.admission.specs.Verdict.{verdict_numbers, program_fault, verdict};
 
-use image::record::header_of;
-use image::{ImageCheck, ImageFault, check_image};
-use runtime::{CoreAdmissionProfile, CoreProfileCheck};
+use image::ImageFault;
+use image::program::Image;
+use runtime::{CoreAdmissionProfile, CoreProfileError};
 
 mod function;
 mod operand;
 
-// The Rust's `Result<(), CoreValidationError>`. Where a verdict is about a function, the function's number comes first.
-#[derive(Clone, Copy)]
-pub enum CoreValidation {
-    Admitted,
+// Why a program may not run.
+#[derive(Clone, Copy, Debug, PartialEq, Eq)]
+pub enum CoreValidationError {
     Image(ImageFault),
-    ZeroLimit(u8),
-    UnboundedLimit(u8),
+    Profile(CoreProfileError),
     EmptyProgram,
     InvalidEntry(usize),
-    TooManyFunctions(usize, usize),
-    TooManyRegisters(usize, usize, usize),
-    TooManyInstructions(usize, usize, usize),
-    InvalidRegister(usize, usize),
-    InvalidJump(usize, usize),
-    InvalidCall(usize, usize),
-    MissingReturn(usize),
-    InvalidArgWindow(usize, usize, usize),
+    TooManyFunctions {
+        count: usize,
+        max: usize,
+    },
+    TooManyRegisters {
+        function: usize,
+        regs: usize,
+        max: usize,
+    },
+    TooManyInstructions {
+        function: usize,
+        instrs: usize,
+        max: usize,
+    },
+    InvalidRegister {
+        function: usize,
+        reg: usize,
+    },
+    InvalidJump {
+        function: usize,
+        target: usize,
+    },
+    InvalidCall {
+        function: usize,
+        target: usize,
+    },
+    MissingReturn {
+        function: usize,
+    },
+    InvalidArgWindow {
+        function: usize,
+        base: usize,
+        count: usize,
+    },
 }
 
-impl CoreValidation {
-    pub fn is_admitted(self) -> bool
-        ensures { result ≡ is_fine (verdict_numbers self) }
-    {
-        match self {
-            CoreValidation::Admitted => true,
-            CoreValidation::Image(_) => false,
-            CoreValidation::ZeroLimit(_) => false,
-            CoreValidation::UnboundedLimit(_) => false,
-            CoreValidation::EmptyProgram => false,
-            CoreValidation::InvalidEntry(_) => false,
-            CoreValidation::TooManyFunctions(_, _) => false,
-            CoreValidation::TooManyRegisters(_, _, _) => false,
-            CoreValidation::TooManyInstructions(_, _, _) => false,
-            CoreValidation::InvalidRegister(_, _) => false,
-            CoreValidation::InvalidJump(_, _) => false,
-            CoreValidation::InvalidCall(_, _) => false,
-            CoreValidation::MissingReturn(_) => false,
-            CoreValidation::InvalidArgWindow(_, _, _) => false,
-        }
-    }
+impl From<ImageFault> for CoreValidationError {
+    ghost from_gives = { λ fault error. error ≡ Image fault };
 
-    // This verdict, or where it finds nothing wrong the next.
-    pub fn or_else(self, next: CoreValidation) -> CoreValidation
-        ensures { verdict_numbers result ≡ or_else (verdict_numbers self) (verdict_numbers next) }
-    {
-        if self.is_admitted() {
-            return next;
-        }
-        self
+    fn from(fault: ImageFault) -> CoreValidationError {
+        CoreValidationError::Image(fault)
+    }
+}
+
+impl From<CoreProfileError> for CoreValidationError {
+    ghost from_gives = { λ fault error. error ≡ Profile fault };
+
+    fn from(fault: CoreProfileError) -> CoreValidationError {
+        CoreValidationError::Profile(fault)
     }
 }
 
 // The profile, then the program as a whole, then its functions in order.
-#[tactic(auto, using(crate::proofs::Programs::header_empty, crate::proofs::Programs::header_too_many, crate::proofs::Programs::header_no_entry, crate::proofs::Programs::header_functions))]
-fn program_fault(image: &[u8], profile: CoreAdmissionProfile) -> CoreValidation
-    ensures { verdict_numbers result ≡ program_fault profile (decode form1 image.now) }
+#[tactic(auto, using(crate::proofs::Programs::by_profile, crate::proofs::Programs::no_functions, crate::proofs::Programs::too_many, crate::proofs::Programs::no_entry, crate::proofs::Programs::by_functions))]
+fn program_fault(image: Image, profile: CoreAdmissionProfile) -> Result<(), CoreValidationError>
+    ensures { verdict_numbers result ≡ program_fault profile (decode form1 image.entry.bytes.now) }
 {
-    match profile.validate() {
-        CoreProfileCheck::ZeroLimit(field) => CoreValidation::ZeroLimit(field),
-        CoreProfileCheck::UnboundedLimit(field) => CoreValidation::UnboundedLimit(field),
-        CoreProfileCheck::Valid => {
-            let h = header_of(image);
-            let functions = h.functions as usize;
-            let entry = h.entry as usize;
-            let max = profile.max_functions as usize;
-            if functions == 0 {
-                return CoreValidation::EmptyProgram;
-            }
-            if functions > max {
-                return CoreValidation::TooManyFunctions(functions, max);
-            }
-            if entry >= functions {
-                return CoreValidation::InvalidEntry(entry);
-            }
-            function::all(image, profile, h.functions)
-        }
+    profile.validate()?;
+    let count = image.function_count() as usize;
+    let max = profile.max_functions as usize;
+    let entry = image.entry();
+    if count == 0 {
+        return Err(CoreValidationError::EmptyProgram);
     }
+    if count > max {
+        return Err(CoreValidationError::TooManyFunctions { count, max });
+    }
+    if entry >= count {
+        return Err(CoreValidationError::InvalidEntry(entry));
+    }
+    function::check_all(image, profile)
 }
 
-pub fn validate_program(image: &[u8], profile: CoreAdmissionProfile) -> CoreValidation
+#[tactic(auto, using(crate::proofs::Programs::by_image, crate::proofs::Programs::by_program))]
+pub fn validate_program(
+    image: &[u8],
+    profile: CoreAdmissionProfile,
+) -> Result<(), CoreValidationError>
     ensures { verdict_numbers result ≡ verdict form1 image.now profile }
 {
-    match check_image(image) {
-        ImageCheck::Fault(fault) => CoreValidation::Image(fault),
-        ImageCheck::Fine => program_fault(image, profile),
-    }
+    program_fault(Image::of(image)?, profile)
 }

@@ -1,117 +1,129 @@
-// The operands of one instruction of function k, decided by its opcode's number, with ranges for opcodes of equal operands.
-ghost use Rattle.std.specs.Prelude.{◌≡◌, ◌^◌, ◌<◌};
-ghost use Rattle.basis.specs.Answers.{or_else};
-ghost use Rattle.image.specs.Records.{form1, header_of, function_no};
+// The operands of one instruction of a function, decided by its opcode's number, with ranges for opcodes of equal operands: a rule of
+// the project.
+ghost use Rattle.std.specs.Prelude.{◌≡◌, ◌^◌, ◌<◌, ltb};
+ghost use Rattle.basis.specs.Answers.{demand, or_else};
+ghost use Rattle.image.specs.Records.{form1};
 ghost use Rattle.image.specs.Program.{decode};
-ghost use Rattle.image.specs.Parts.{regs_of};
-ghost use Rattle.admission.specs.Verdict.{verdict_numbers, register_fault, jump_fault, call_fault, window_fault, instr_fault};
+ghost use Rattle.image.specs.Parts.{functions_of, regs_of};
+ghost use Rattle.admission.specs.Verdict.{refusal_numbers, verdict_numbers, register_fault, jump_fault, call_fault, window_fault, instr_fault};
 
-use crate::CoreValidation;
-use image::record::{FUNCTION_SIZE, FunctionRecord, HEADER_SIZE, function_at};
+use crate::CoreValidationError;
+use crate::function::Function;
+use image::program::Image;
 use instr::Instr;
 
-fn check_reg(k: usize, regs: usize, reg: usize) -> CoreValidation
-    ensures { verdict_numbers result ≡ register_fault k regs reg }
+// What names a register, a place or a function has to be below their number.
+fn below(n: usize, limit: usize, error: CoreValidationError) -> Result<(), CoreValidationError>
+    ensures { verdict_numbers result ≡ demand (ltb n limit) (refusal_numbers error) }
 {
-    if reg < regs {
-        return CoreValidation::Admitted;
+    if n < limit {
+        return Ok(());
     }
-    CoreValidation::InvalidRegister(k, reg)
-}
-
-fn check_jump(k: usize, len: usize, target: usize) -> CoreValidation
-    ensures { verdict_numbers result ≡ jump_fault k len target }
-{
-    if target < len {
-        return CoreValidation::Admitted;
-    }
-    CoreValidation::InvalidJump(k, target)
-}
-
-fn check_callee(k: usize, functions: usize, callee: usize) -> CoreValidation
-    ensures { verdict_numbers result ≡ call_fault k functions callee }
-{
-    if callee < functions {
-        return CoreValidation::Admitted;
-    }
-    CoreValidation::InvalidCall(k, callee)
-}
-
-fn check_window(k: usize, regs: usize, room: usize, base: usize, count: usize) -> CoreValidation
-    requires { (base < 2 ^ 16) × (count < 2 ^ 32) }
-    ensures { verdict_numbers result ≡ window_fault k regs room base count }
-{
-    if base + count > regs {
-        return CoreValidation::InvalidArgWindow(k, base, count);
-    }
-    if count > room {
-        return CoreValidation::InvalidArgWindow(k, base, count);
-    }
-    CoreValidation::Admitted
-}
-
-fn check_two(k: usize, regs: usize, a: usize, b: usize) -> CoreValidation
-    ensures { verdict_numbers result ≡ or_else (register_fault k regs a) (register_fault k regs b) }
-{
-    check_reg(k, regs, a).or_else(check_reg(k, regs, b))
-}
-
-fn check_three(k: usize, regs: usize, a: usize, b: usize, c: usize) -> CoreValidation
-    ensures { verdict_numbers result ≡ or_else (register_fault k regs a) (or_else (register_fault k regs b) (register_fault k regs c)) }
-{
-    check_reg(k, regs, a).or_else(check_two(k, regs, b, c))
-}
-
-fn check_branch(k: usize, regs: usize, len: usize, cond: usize, target: usize) -> CoreValidation
-    ensures { verdict_numbers result ≡ or_else (register_fault k regs cond) (jump_fault k len target) }
-{
-    check_reg(k, regs, cond).or_else(check_jump(k, len, target))
+    Err(error)
 }
 
 // The registers of the function that a Call names, none where it is not there.
-fn callee_regs(image: &[u8], functions: u32, callee: usize) -> usize
-    requires { functions ≡ (header_of image.now).functions }
-    ensures { result ≡ regs_of (decode form1 image.now) callee }
+#[tactic(auto, using(image::proofs::Numbers::regs_in, image::proofs::Numbers::regs_out))]
+fn callee_regs(image: Image, callee: usize) -> usize
+    ensures { result ≡ regs_of (decode form1 image.entry.bytes.now) callee }
 {
-    if callee < functions as usize {
-        return function_at(image, HEADER_SIZE + FUNCTION_SIZE * callee).regs as usize;
+    match image.function(callee) {
+        Some(row) => row.regs as usize,
+        None => 0,
     }
-    0
 }
 
-fn check_call(image: &[u8], functions: u32, k: usize, regs: usize, i: Instr) -> CoreValidation
-    requires functions_value { functions ≡ (header_of image.now).functions }
-    requires c_bound { i.c < 2 ^ 16 }
-    ensures { verdict_numbers result ≡ or_else (register_fault k regs i.a) (or_else (call_fault k functions i.b) (window_fault k regs (regs_of (decode form1 image.now) i.b) i.c i.w)) }
-{
-    let room = callee_regs(image, functions, i.b);
-    let window = check_window(k, regs, room, i.c, i.w as usize);
-    check_reg(k, regs, i.a).or_else(check_callee(k, functions as usize, i.b).or_else(window))
-}
+impl<'a> Function<'a> {
+    #[tactic(auto, unfolding(crate::specs::Verdict::register_fault))]
+    fn check_register(self, reg: usize) -> Result<(), CoreValidationError>
+        ensures { verdict_numbers result ≡ register_fault self.entry.number self.entry.row.regs reg }
+    {
+        let error = CoreValidationError::InvalidRegister {
+            function: self.number,
+            reg,
+        };
+        below(reg, self.row.regs as usize, error)
+    }
 
-// Instruction i of function k, whose record is f.
-pub fn check_instr(
-    image: &[u8],
-    functions: u32,
-    k: usize,
-    f: FunctionRecord,
-    op: u8,
-    i: Instr,
-) -> CoreValidation
-    requires functions_value { functions ≡ (header_of image.now).functions }
-    requires k_lt_functions { (k < functions) × (f ≡ function_no image.now k) }
-    requires op_value { (op ≡ i.op) × (i.c < 2 ^ 16) }
-    ensures { verdict_numbers result ≡ instr_fault (decode form1 image.now) k i }
-{
-    let regs = f.regs as usize;
-    let len = f.count as usize;
-    match op {
-        2..=8 | 55 => check_reg(k, regs, i.a),
-        9 | 15..=18 | 50 => check_two(k, regs, i.a, i.b),
-        10..=14 | 19..=49 => check_three(k, regs, i.a, i.b, i.c),
-        51 => check_jump(k, len, i.w as usize),
-        52..=53 => check_branch(k, regs, len, i.a, i.w as usize),
-        54 => check_call(image, functions, k, regs, i),
-        _ => CoreValidation::Admitted,
+    #[tactic(auto, unfolding(crate::specs::Verdict::jump_fault))]
+    fn check_target(self, target: usize) -> Result<(), CoreValidationError>
+        ensures { verdict_numbers result ≡ jump_fault self.entry.number self.entry.row.count target }
+    {
+        let error = CoreValidationError::InvalidJump {
+            function: self.number,
+            target,
+        };
+        below(target, self.row.count as usize, error)
+    }
+
+    #[tactic(auto, using(image::proofs::Parts::functions_length), unfolding(crate::specs::Verdict::call_fault))]
+    fn check_callee(self, target: usize) -> Result<(), CoreValidationError>
+        ensures { verdict_numbers result ≡ call_fault self.entry.number (functions_of (decode form1 self.entry.image.bytes.now)) target }
+    {
+        let error = CoreValidationError::InvalidCall {
+            function: self.number,
+            target,
+        };
+        below(target, self.image.function_count() as usize, error)
+    }
+
+    #[tactic(auto, unfolding(crate::specs::Verdict::window_fault))]
+    fn check_window(self, room: usize, base: usize, count: usize) -> Result<(), CoreValidationError>
+        requires { (base < 2 ^ 16) × (count < 2 ^ 32) }
+        ensures { verdict_numbers result ≡ window_fault self.entry.number self.entry.row.regs room base count }
+    {
+        if base + count > self.row.regs as usize || count > room {
+            return Err(CoreValidationError::InvalidArgWindow {
+                function: self.number,
+                base,
+                count,
+            });
+        }
+        Ok(())
+    }
+
+    fn check_two(self, first: usize, second: usize) -> Result<(), CoreValidationError>
+        ensures { verdict_numbers result ≡ or_else (register_fault self.entry.number self.entry.row.regs first) (register_fault self.entry.number self.entry.row.regs second) }
+    {
+        self.check_register(first)?;
+        self.check_register(second)
+    }
+
+    fn check_three(self, a: usize, b: usize, c: usize) -> Result<(), CoreValidationError>
+        ensures { verdict_numbers result ≡ or_else (register_fault self.entry.number self.entry.row.regs a) (or_else (register_fault self.entry.number self.entry.row.regs b) (register_fault self.entry.number self.entry.row.regs c)) }
+    {
+        self.check_register(a)?;
+        self.check_two(b, c)
+    }
+
+    fn check_branch(self, cond: usize, target: usize) -> Result<(), CoreValidationError>
+        ensures { verdict_numbers result ≡ or_else (register_fault self.entry.number self.entry.row.regs cond) (jump_fault self.entry.number self.entry.row.count target) }
+    {
+        self.check_register(cond)?;
+        self.check_target(target)
+    }
+
+    fn check_call(self, i: Instr) -> Result<(), CoreValidationError>
+        requires { i.c < 2 ^ 16 }
+        ensures { verdict_numbers result ≡ or_else (register_fault self.entry.number self.entry.row.regs i.a) (or_else (call_fault self.entry.number (functions_of (decode form1 self.entry.image.bytes.now)) i.b) (window_fault self.entry.number self.entry.row.regs (regs_of (decode form1 self.entry.image.bytes.now) i.b) i.c i.w)) }
+    {
+        self.check_register(i.a)?;
+        self.check_callee(i.b)?;
+        self.check_window(callee_regs(self.image, i.b), i.c, i.w as usize)
+    }
+
+    pub fn check_instr(self, i: Instr) -> Result<(), CoreValidationError>
+        requires { i.c < 2 ^ 16 }
+        ensures { verdict_numbers result ≡ instr_fault (decode form1 self.entry.image.bytes.now) self.entry.number i }
+    {
+        match i.op {
+            2..=8 | 55 => self.check_register(i.a),
+            9 | 15..=18 | 50 => self.check_two(i.a, i.b),
+            10..=14 | 19..=49 => self.check_three(i.a, i.b, i.c),
+            51 => self.check_target(i.w as usize),
+            52..=53 => self.check_branch(i.a, i.w as usize),
+            54 => self.check_call(i),
+            _ => Ok(()),
+        }
     }
 }

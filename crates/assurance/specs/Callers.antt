@@ -1,7 +1,7 @@
 -- What callers can rely on, said of the numbers that an execution answers with: its number, and for 0 status, kind, payload and fuel
 -- used, for 6 and 7 the fuel used. `execute_outcome` answers with these numbers, and over the C boundary they are the number returned
 -- and the words written.
-use Rattle.std.specs.Prelude.{ℕ, ◌≤◌, ◌<◌, ◌^◌, Bool, ◌≡◌, List, [], ◌∷◌, ◌≢◌, eqb, length, get_or, take}
+use Rattle.std.specs.Prelude.{Ok, ℕ, ◌≤◌, ◌<◌, ◌^◌, Bool, ◌≡◌, List, [], ◌∷◌, ◌≢◌, eqb, length, get_or, take}
 use Rattle.basis.specs.Choice.{pick}
 use Rattle.runtime.specs.declared.CoreAdmissionProfile.{CoreAdmissionProfile}
 use Rattle.runtime.specs.declared.CoreTrap.TheVariants.{InvalidPc, InvalidRegister, FuelExceeded, InvalidFunction}
@@ -9,7 +9,6 @@ use Rattle.value.specs.declared.result.CoreStatus.TheVariants.{Trapped}
 use Rattle.value.specs.Result.{status_word}
 use Rattle.image.specs.Records.{form1}
 use Rattle.image.specs.Program.{decode}
-use Rattle.admission.specs.declared.CoreValidation.TheVariants.{Admitted}
 use Rattle.admission.specs.Verdict.{verdict}
 use Rattle.admission.proofs.validate_program.Reads as validate_program
 use Rattle.lent.specs.Records.{words_of, records_of}
@@ -86,9 +85,9 @@ profile_of registers functions depth instrs fuel =
       max_fuel = fuel;
     }
 
--- `Admitted`, and 0 over the C boundary, are the verdict that is spoken of above
+-- `Ok`, and 0 over the C boundary, are the verdict that is spoken of above
 abbrev pub ValidateProgramAdmits : Type 0
-ValidateProgramAdmits = (κs : _) (a : _) (v : _) (e : _) → validate_program.Learnt κs a v e → v ≡ Admitted
+ValidateProgramAdmits = (κs : _) (a : _) (v : _) (e : _) → validate_program.Learnt κs a v e → v ≡ Ok tt
     → verdict form1 a.0.now a.1.0 ≡ []
 
 abbrev pub KnitValidateAdmits : Type 0

@@ -11,11 +11,9 @@ use Rattle.value.specs.Value.{bool_kind, i32_kind, fx_kind, register}
 use Rattle.instr.specs.declared.Instr.{Instr}
 use Rattle.image.specs.Records.{form1}
 use Rattle.image.specs.Program.{Program, no_instr}
-use Rattle.admission.specs.Verdict.{verdict_numbers, program_fault, verdict}
-use Rattle.admission.specs.declared.CoreValidation.{CoreValidation}
-use Rattle.admission.specs.declared.CoreValidation.TheVariants.{Admitted, InvalidEntry, InvalidRegister, InvalidJump, InvalidCall, MissingReturn, InvalidArgWindow}
-use Rattle.operate.specs.declared.Outcome.{Outcome}
-use Rattle.operate.specs.declared.Outcome.TheVariants.{Value, Trap}
+use Rattle.admission.specs.Verdict.{refusal_numbers, verdict_numbers, program_fault, verdict}
+use Rattle.admission.specs.declared.CoreValidationError.{CoreValidationError}
+use Rattle.admission.specs.declared.CoreValidationError.TheVariants.{InvalidEntry, InvalidRegister, InvalidJump, InvalidCall, MissingReturn, InvalidArgWindow}
 use Rattle.operate.specs.Operate.{operated}
 use Rattle.exec.specs.declared.Ending.{Ending}
 use Rattle.exec.specs.declared.Ending.TheVariants.{Trapped, FrameRoom, RegisterRoom}
@@ -26,6 +24,8 @@ use Rattle.exec.specs.Execute as executing
 use Rattle.text.specs.Ascii.{ascii}
 use Rattle.text.specs.Identifier.{identifier}
 use Rattle.text.specs.Line.{printed}
+use Rattle.std.specs.Prelude.{Result, Ok, Err, Option, Some}
+use Rattle.runtime.specs.declared.CoreTrap.{CoreTrap}
 
 -- ---- registers, by what they hold
 abbrev pub bool_false : ℕ
@@ -127,17 +127,17 @@ document_image = image_with 1 0
 
 pub data Edge : Type 0 where
   -- an opcode on two registers computes this
-  operation : ℕ → ℕ → ℕ → Outcome → Edge
+  operation : ℕ → ℕ → ℕ → Result (Option ℕ) CoreTrap → Edge
   -- a program has this verdict under the safe profile
-  admission : Program → CoreValidation → Edge
+  admission : Program → Result Unit CoreValidationError → Edge
   -- so have these bytes
-  image : List ℕ → CoreValidation → Edge
+  image : List ℕ → Result Unit CoreValidationError → Edge
   -- a program under this depth limit and with this fuel ends so, having used this much
   running : Program → ℕ → ℕ → Ending → ℕ → Edge
   -- under this depth limit, with so many lent words of frames and of registers, it ends so, having used this much
   lending : Program → ℕ → ℕ → ℕ → Ending → ℕ → Edge
   -- a program that breaks one rule of admission has this verdict under the safe profile; run all the same, it ends so
-  breaking : Program → CoreValidation → Ending → ℕ → Edge
+  breaking : Program → CoreValidationError → Ending → ℕ → Edge
   -- these bytes under the default configuration are answered with these numbers
   execution : List ℕ → List ℕ → Edge
   -- the runner prints this line for these bytes, with further bytes after them or not
@@ -165,7 +165,7 @@ Holds (lending p most frames regs what used) =
     (end.what ≡ what) × (end.used ≡ used)
 Holds (breaking p fault what used) =
     let end = entered p unit 64 9 (replicate 8 77) register_room in
-    (program_fault safe_profile p ≡ verdict_numbers fault) × ((end.what ≡ what) × (end.used ≡ used))
+    (program_fault safe_profile p ≡ refusal_numbers fault) × ((end.what ≡ what) × (end.used ≡ used))
 Holds (execution bytes answer) =
     (executing.execution form1 unit bytes default_config.max_call_depth default_config.fuel frame_room register_room).answer ≡ answer
 Holds (printing bytes more line) = printed bytes more ≡ ascii line
@@ -173,19 +173,19 @@ Holds (naming lesson digest id) = identifier lesson digest ≡ ascii id
 
 unfoldable pub edges : List Edge
 edges =
-    Edge.operation FxMul (fx (minus 1)) (fx (pos 1)) (Value (fx (minus 1)))
-    ∷ Edge.operation FxDiv (fx (minus 1)) (fx (pos 131072)) (Value (fx (pos 0)))
-    ∷ Edge.operation FxDiv (fx (pos 32768)) (fx (minus 1)) (Value (fx (minus (2 ^ 31))))
-    ∷ Edge.operation FxDiv (fx (pos 32768)) (fx (pos 1)) (Trap IntegerOverflow)
-    ∷ Edge.operation I32Div (i32 (minus (2 ^ 31))) (i32 (minus 1)) (Trap IntegerOverflow)
-    ∷ Edge.operation I32Div bool_true (i32 (pos 0)) (Trap DivisionByZero)
-    ∷ Edge.operation FxDiv bool_true (fx (pos 0)) (Trap TypeMismatch)
-    ∷ Edge.operation BoolAnd bool_false (i32 (pos 5)) (Value bool_false)
-    ∷ Edge.admission (alone 0 (Nop ∷ [])) (MissingReturn 0)
-    ∷ Edge.admission (alone 0 (Ret 0 ∷ [])) (InvalidRegister 0 0)
-    ∷ Edge.admission (alone 1 (CallItself 0 1 ∷ Ret 0 ∷ [])) Admitted
-    ∷ Edge.admission (alone 1 (CallItself 0 2 ∷ Ret 0 ∷ [])) (InvalidArgWindow 0 2 0)
-    ∷ Edge.image document_image Admitted
+    Edge.operation FxMul (fx (minus 1)) (fx (pos 1)) (Ok (Some (fx (minus 1))))
+    ∷ Edge.operation FxDiv (fx (minus 1)) (fx (pos 131072)) (Ok (Some (fx (pos 0))))
+    ∷ Edge.operation FxDiv (fx (pos 32768)) (fx (minus 1)) (Ok (Some (fx (minus (2 ^ 31)))))
+    ∷ Edge.operation FxDiv (fx (pos 32768)) (fx (pos 1)) (Err IntegerOverflow)
+    ∷ Edge.operation I32Div (i32 (minus (2 ^ 31))) (i32 (minus 1)) (Err IntegerOverflow)
+    ∷ Edge.operation I32Div bool_true (i32 (pos 0)) (Err DivisionByZero)
+    ∷ Edge.operation FxDiv bool_true (fx (pos 0)) (Err TypeMismatch)
+    ∷ Edge.operation BoolAnd bool_false (i32 (pos 5)) (Ok (Some bool_false))
+    ∷ Edge.admission (alone 0 (Nop ∷ [])) (Err (MissingReturn 0))
+    ∷ Edge.admission (alone 0 (Ret 0 ∷ [])) (Err (InvalidRegister 0 0))
+    ∷ Edge.admission (alone 1 (CallItself 0 1 ∷ Ret 0 ∷ [])) (Ok tt)
+    ∷ Edge.admission (alone 1 (CallItself 0 2 ∷ Ret 0 ∷ [])) (Err (InvalidArgWindow 0 2 0))
+    ∷ Edge.image document_image (Ok tt)
     ∷ Edge.running (alone 1 []) 64 0 (Trapped InvalidPc) 0
     ∷ Edge.running (alone 1 (Nop ∷ [])) 64 0 (Trapped FuelExceeded) 0
     ∷ Edge.running (alone 1 (CallOf 9 ∷ [])) 0 5 (Trapped CallDepthExceeded) 1
@@ -204,7 +204,7 @@ edges =
     ∷ Edge.breaking nowhere (InvalidRegister 0 5) (Trapped trap.InvalidRegister) 2
     ∷ Edge.breaking (alone 1 []) (MissingReturn 0) (Trapped InvalidPc) 0
     ∷ Edge.breaking headless (InvalidEntry 1) (Trapped InvalidFunction) 0
-    ∷ Edge.admission overshooting Admitted
+    ∷ Edge.admission overshooting (Ok tt)
     ∷ Edge.running overshooting 64 9 (Trapped InvalidPc) 2
     ∷ Edge.printing document_image false "done 0 3 4294967295 2\n"
     ∷ Edge.printing document_image true "refused 8 0\n"

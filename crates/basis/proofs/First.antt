@@ -24,10 +24,6 @@ fine_nothing [] e = refl
 fine_nothing (n ∷ ns) e = cc
 
 -- the first of two by the test of the first
-pub or_fine : (a b : List ℕ) → is_fine a ≡ true → or_else a b ≡ b
-or_fine [] b e = refl
-or_fine (n ∷ ns) b e = cc
-
 pub or_unfine : (a b : List ℕ) → is_fine a ≡ false → or_else a b ≡ a
 or_unfine [] b e = cc
 or_unfine (n ∷ ns) b e = refl
@@ -54,10 +50,6 @@ module _ (f : ℕ → List ℕ) where
   pub first_here : (i n x : ℕ) (xs : List ℕ) → i < n → first_of f i ≡ [] → f i ≡ x ∷ xs → first_of f n ≡ x ∷ xs
   unfolding first_of
   first_here i n x xs l p q = first_kept (suc i) n x xs l (rw p q)
-
-  -- both turns, where the answer at i came from a call
-  pub first_next : (i : ℕ) (a : List ℕ) → first_of f i ≡ [] → a ≡ f i → is_fine a ≡ true → first_of f (i + 1) ≡ []
-  first_next i a p q e = first_more i p (sym q ∙ fine_nothing a e)
 
   pub first_found : (i n : ℕ) (a : List ℕ) → i < n → first_of f i ≡ [] → a ≡ f i → is_fine a ≡ false → a ≡ first_of f n
   first_found i n [] l p q e = cc

@@ -1,5 +1,5 @@
-pub mod Halves
 pub mod Ranges
 pub mod First
 pub mod Says
 pub mod Past
+pub mod There

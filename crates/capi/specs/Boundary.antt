@@ -18,15 +18,7 @@ Answered answer number words = (number ≡ number_of answer) × (words ≡ words
 
 -- number and words together; no answer has more than five values
 abbrev pub answer_of : List ℕ → Answer
-answer_of answer =
-    record {
-      number = get_or answer 0 0;
-      first = get_or answer 1 0;
-      second = get_or answer 2 0;
-      third = get_or answer 3 0;
-      fourth = get_or answer 4 0;
-      fifth = get_or answer 5 0;
-    }
+answer_of answer = record { number = number_of answer; words = words_of answer }
 
 -- ---- an execution
 -- a result carries its digest after its four values; a refusal has none

@@ -2,121 +2,137 @@
 // include/knitcauldron.h declares these. Each takes its arguments apart, calls one proved function and writes the answer's words.
 #![tactic(auto)]
 
-ghost use Rattle.std.specs.Prelude.{◌≡◌};
+ghost use Rattle.std.specs.Prelude.{◌≡◌, ◌≤◌, ◌∷◌};
+ghost use Rattle.runtime.specs.Profile.{error_numbers};
 ghost use Rattle.value.specs.Digest.{digested};
 ghost use Rattle.image.specs.Image.{fault_numbers};
 ghost use Rattle.image.specs.Records.{form1};
-ghost use Rattle.admission.specs.Verdict.{verdict_numbers, verdict};
-ghost use Rattle.exec.specs.declared.CoreOutcome.TheVariants.{Done};
+ghost use Rattle.admission.specs.Verdict.{refusal_numbers, verdict_numbers, verdict};
 ghost use Rattle.exec.specs.Price.{unit};
-ghost use Rattle.exec.specs.Execute.{outcome_numbers, execution};
+ghost use Rattle.exec.specs.Execute.{result_numbers, outcome_numbers, execution};
 ghost use Rattle.text.specs.Identifier.{id_numbers, identification};
 ghost use Rattle.capi.specs.Boundary.{Answered, answer_of, with_digest, crossing, crossed, naming, named};
 
-use admission::{CoreValidation, validate_program};
+use admission::{CoreValidationError, validate_program};
 use exec::config::{CoreConfig, CoreEnginePolicy};
 use exec::{CoreOutcome, execute_outcome};
 use image::ImageFault;
-use runtime::CoreAdmissionProfile;
-use text::event::{EVENT_ID_BYTES, EventId, event_id};
+use runtime::{CoreAdmissionProfile, CoreProfileError};
+use text::event::{EVENT_ID_BYTES, IdRoom, event_id};
 use value::digest::digest_words;
 use value::result::CoreResult;
 
-// An answer's number and its five values, zeros after those that it has.
-#[derive(Clone, Copy)]
+// An answer's number and its five words: its values, and zeros after those that it has.
+#[derive(Clone, Copy, Debug, PartialEq, Eq)]
 pub struct Answer {
     pub number: u64,
-    pub first: u64,
-    pub second: u64,
-    pub third: u64,
-    pub fourth: u64,
-    pub fifth: u64,
+    pub words: [u64; 5],
 }
 
-fn answer_of(number: u64, first: usize, second: usize, third: usize) -> Answer
-    ensures { result ≡ record { number = number; first = first; second = second; third = third; fourth = 0; fifth = 0 } }
+fn answer_of<const N: usize>(number: u64, values: [usize; N]) -> Answer
+    requires { N ≤ 5 }
+    ensures { result ≡ answer_of (number ∷ values.entry) }
 {
-    Answer {
-        number,
-        first: first as u64,
-        second: second as u64,
-        third: third as u64,
-        fourth: 0,
-        fifth: 0,
+    let mut words = [0; 5];
+    for (i, value) in values.iter().enumerate() {
+        words[i] = *value as u64;
     }
+    Answer { number, words }
 }
 
 fn of_fault(fault: ImageFault) -> Answer
     ensures { result ≡ answer_of (fault_numbers fault) }
 {
-    match fault {
-        ImageFault::Short => answer_of(1, 0, 0, 0),
-        ImageFault::Form => answer_of(2, 0, 0, 0),
-        ImageFault::Layout => answer_of(3, 0, 0, 0),
-        ImageFault::FunctionTable(k) => answer_of(4, k, 0, 0),
-        ImageFault::Instruction(k) => answer_of(5, k, 0, 0),
+    let (number, value) = fault.numbers();
+    answer_of(number, [value as usize])
+}
+
+fn of_profile(error: CoreProfileError) -> Answer
+    ensures { result ≡ answer_of (10 ∷ error_numbers error) }
+{
+    match error {
+        CoreProfileError::ZeroLimit(field) => answer_of(10, [0, usize::from(field.number())]),
+        CoreProfileError::UnboundedLimit(field) => answer_of(10, [1, usize::from(field.number())]),
     }
 }
 
-fn of_verdict(v: CoreValidation) -> Answer
-    ensures { result ≡ answer_of (verdict_numbers v) }
+fn of_refusal(error: CoreValidationError) -> Answer
+    ensures { result ≡ answer_of (refusal_numbers error) }
 {
-    match v {
-        CoreValidation::Admitted => answer_of(0, 0, 0, 0),
-        CoreValidation::Image(fault) => of_fault(fault),
-        CoreValidation::ZeroLimit(field) => answer_of(10, 0, field as usize, 0),
-        CoreValidation::UnboundedLimit(field) => answer_of(10, 1, field as usize, 0),
-        CoreValidation::EmptyProgram => answer_of(11, 0, 0, 0),
-        CoreValidation::InvalidEntry(entry) => answer_of(12, entry, 0, 0),
-        CoreValidation::TooManyFunctions(n, max) => answer_of(13, n, max, 0),
-        CoreValidation::TooManyRegisters(k, regs, max) => answer_of(14, k, regs, max),
-        CoreValidation::TooManyInstructions(k, n, max) => answer_of(15, k, n, max),
-        CoreValidation::InvalidRegister(k, reg) => answer_of(16, k, reg, 0),
-        CoreValidation::InvalidJump(k, target) => answer_of(17, k, target, 0),
-        CoreValidation::InvalidCall(k, target) => answer_of(18, k, target, 0),
-        CoreValidation::MissingReturn(k) => answer_of(19, k, 0, 0),
-        CoreValidation::InvalidArgWindow(k, base, count) => answer_of(20, k, base, count),
+    match error {
+        CoreValidationError::Image(fault) => of_fault(fault),
+        CoreValidationError::Profile(error) => of_profile(error),
+        CoreValidationError::EmptyProgram => answer_of(11, []),
+        CoreValidationError::InvalidEntry(entry) => answer_of(12, [entry]),
+        CoreValidationError::TooManyFunctions { count, max } => answer_of(13, [count, max]),
+        CoreValidationError::TooManyRegisters {
+            function,
+            regs,
+            max,
+        } => answer_of(14, [function, regs, max]),
+        CoreValidationError::TooManyInstructions {
+            function,
+            instrs,
+            max,
+        } => answer_of(15, [function, instrs, max]),
+        CoreValidationError::InvalidRegister { function, reg } => answer_of(16, [function, reg]),
+        CoreValidationError::InvalidJump { function, target } => answer_of(17, [function, target]),
+        CoreValidationError::InvalidCall { function, target } => answer_of(18, [function, target]),
+        CoreValidationError::MissingReturn { function } => answer_of(19, [function]),
+        CoreValidationError::InvalidArgWindow {
+            function,
+            base,
+            count,
+        } => answer_of(20, [function, base, count]),
+    }
+}
+
+#[tactic(auto, unfolding(crate::specs::Boundary::number_of, crate::specs::Boundary::words_of))]
+fn of_verdict(verdict: Result<(), CoreValidationError>) -> Answer
+    ensures { result ≡ answer_of (verdict_numbers verdict) }
+{
+    match verdict {
+        Ok(()) => answer_of(0, []),
+        Err(error) => of_refusal(error),
     }
 }
 
 // Status, kind, payload, fuel used and digest.
+#[tactic(auto, unfolding(crate::specs::Boundary::with_digest, crate::specs::Boundary::number_of, crate::specs::Boundary::words_of))]
 fn of_result(res: CoreResult) -> Answer
-    ensures { result ≡ answer_of (with_digest (outcome_numbers (Done res))) }
+    ensures { result ≡ answer_of (with_digest (0 ∷ result_numbers res)) }
 {
-    let status = res.status;
-    let value = res.return_value;
+    let status = res.status.number();
+    let kind = u64::from(res.return_value.kind().number());
+    let payload = u64::from(res.return_value.payload());
     let used = res.fuel_used;
-    let first = status.number();
-    let second = value.kind() as u64;
-    let third = value.payload() as u64;
+    let digest = digest_words(status, kind, payload, used);
     Answer {
         number: 0,
-        first,
-        second,
-        third,
-        fourth: used,
-        fifth: digest_words(first, second, third, used),
+        words: [status, kind, payload, used, digest],
     }
 }
 
 // A refusal for room answers with the fuel used.
-fn of_outcome(o: CoreOutcome) -> Answer
-    ensures { result ≡ answer_of (with_digest (outcome_numbers o)) }
+#[tactic(auto, using(crate::proofs::Words::refusal_alone), unfolding(crate::specs::Boundary::with_digest))]
+fn of_outcome(outcome: CoreOutcome) -> Answer
+    ensures { result ≡ answer_of (with_digest (outcome_numbers outcome)) }
 {
-    match o {
-        CoreOutcome::Done(result) => of_result(result),
-        CoreOutcome::Image(fault) => of_fault(fault),
-        CoreOutcome::FrameRoom(used) => answer_of(6, used as usize, 0, 0),
-        CoreOutcome::RegisterRoom(used) => answer_of(7, used as usize, 0, 0),
+    match outcome {
+        Ok(result) => of_result(result),
+        Err(refusal) => {
+            let (number, value) = refusal.numbers();
+            answer_of(number, [value as usize])
+        }
     }
 }
 
-fn of_event_id(id: EventId) -> Answer
+fn of_event_id(id: Result<(), IdRoom>) -> Answer
     ensures { result ≡ answer_of (id_numbers id) }
 {
     match id {
-        EventId::Written => answer_of(0, EVENT_ID_BYTES, 0, 0),
-        EventId::IdRoom => answer_of(9, 0, 0, 0),
+        Ok(()) => answer_of(0, [EVENT_ID_BYTES]),
+        Err(IdRoom) => answer_of(9, [0]),
     }
 }
 
@@ -138,9 +154,9 @@ pub fn knit_validate(
         max_instrs_per_function,
         max_fuel,
     };
-    let r = of_verdict(validate_program(image, profile));
-    *answer = [r.first, r.second, r.third, r.fourth, r.fifth];
-    r.number
+    let Answer { number, words } = of_verdict(validate_program(image, profile));
+    *answer = words;
+    number
 }
 
 pub fn knit_execute(
@@ -160,9 +176,9 @@ pub fn knit_execute(
         validate_before_execute: true,
         profile: CoreAdmissionProfile::safe(),
     };
-    let r = of_outcome(execute_outcome(image, config, frames, registers));
-    *answer = [r.first, r.second, r.third, r.fourth, r.fifth];
-    r.number
+    let Answer { number, words } = of_outcome(execute_outcome(image, config, frames, registers));
+    *answer = words;
+    number
 }
 
 pub fn knit_digest(status: u64, kind: u64, payload: u64, fuel_used: u64) -> u64
@@ -174,7 +190,7 @@ pub fn knit_digest(status: u64, kind: u64, payload: u64, fuel_used: u64) -> u64
 pub fn knit_event_id(lesson: u32, digest: u64, out: &mut [u8], answer: &mut [u64; 5]) -> u64
     ensures { naming result answer.new out.new ≡ named (identification lesson digest out.old) }
 {
-    let r = of_event_id(event_id(lesson, digest, out));
-    *answer = [r.first, r.second, r.third, r.fourth, r.fifth];
-    r.number
+    let Answer { number, words } = of_event_id(event_id(lesson, digest, out));
+    *answer = words;
+    number
 }

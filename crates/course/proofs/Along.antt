@@ -4,24 +4,23 @@ use mathlib.Core.Path.{◌≡◌, subst}
 use mathlib.Core.List.{List}
 use Rattle.image.specs.Program.{Program}
 use Rattle.exec.specs.declared.Ending.{Ending}
-use Rattle.exec.specs.declared.Step.{Step}
-use Rattle.exec.specs.declared.Step.TheVariants.{Go, Ends}
 use Rattle.exec.specs.Lent.{State, state}
 use Rattle.exec.specs.Step.{Stepped, stops, step, Inside}
 use Rattle.course.specs.Course.{ahead, next, after, GoesOn, Leads}
+use Rattle.std.specs.Prelude.{Result, Ok, Err}
 
 -- of a step: P holds of the state that it goes on to, or E of what it ends with
-abbrev pub Kept : (State → Type 0) → (Ending → Type 0) → Step → List ℕ → List ℕ → Type 0
-Kept P E (Go d) frames regs = P (state frames regs d)
-Kept P E (Ends e) frames regs = E e
+abbrev pub Kept : (State → Type 0) → (Ending → Type 0) → Result ℕ Ending → List ℕ → List ℕ → Type 0
+Kept P E (Ok d) frames regs = P (state frames regs d)
+Kept P E (Err e) frames regs = E e
 
 abbrev pub Keeps : (State → Type 0) → (Ending → Type 0) → Stepped → Type 0
 Keeps P E o = Kept P E o.answer o.frames o.regs
 
 module _ (p : Program) (most : ℕ) (P : State → Type 0) (E : Ending → Type 0) (keeps : (s : State) → P s → Inside p s → Keeps P E (step p most s)) where
-  ahead_keeps : (s : State) (x : Step) (fr rg : List ℕ) → Kept P E x fr rg → GoesOn x → P (ahead s x fr rg)
-  ahead_keeps s (Go d) fr rg k g = k
-  ahead_keeps s (Ends e) fr rg k g = absurd g
+  ahead_keeps : (s : State) (x : Result ℕ Ending) (fr rg : List ℕ) → Kept P E x fr rg → GoesOn x → P (ahead s x fr rg)
+  ahead_keeps s (Ok d) fr rg k g = k
+  ahead_keeps s (Err e) fr rg k g = absurd g
 
   pub along : (n : ℕ) (s : State) → Leads p most n s → P s → P (after p most n s)
   unfolding after Leads
@@ -30,5 +29,5 @@ module _ (p : Program) (most : ℕ) (P : State → Type 0) (E : Ending → Type 
       along n (next p most s) l.1.1
       (ahead_keeps s (step p most s).answer (step p most s).frames (step p most s).regs (keeps s h l.0) l.1.0)
 
-  pub at_end : (s : State) (e : Ending) → P s → Inside p s → step p most s ≡ stops s (Ends e) → E e
+  pub at_end : (s : State) (e : Ending) → P s → Inside p s → step p most s ≡ stops s (Err e) → E e
   at_end s e h i q = subst (λ (o : Stepped). Keeps P E o) q (keeps s h i)

@@ -11,18 +11,18 @@ use Rattle.basis.specs.Choice.{pick}
 use Rattle.runtime.specs.declared.CoreTrap.TheVariants.{InvalidPc, FuelExceeded}
 use Rattle.image.specs.Program.{Program}
 use Rattle.exec.specs.declared.Ending.TheVariants.{Trapped}
-use Rattle.exec.specs.declared.Step.{Step}
-use Rattle.exec.specs.declared.Step.TheVariants.{Go, Ends}
 use Rattle.exec.specs.Price.{unit}
 use Rattle.exec.specs.Lent.{State, state}
 use Rattle.exec.specs.Step.{step, is_past}
 use Rattle.exec.specs.Run.{Final, final, onward, run_for, run}
 use Rattle.exec.specs.Begun.{begun_after, begun_for, begun}
+use Rattle.std.specs.Prelude.{Result, Ok, Err}
+use Rattle.exec.specs.declared.Ending.{Ending}
 
-after_counts : (x : Step) (fr rg : List ℕ) (k : State → Final) (l : State → List State) → ((t : State) → (k t).used ≡ length (l t))
+after_counts : (x : Result ℕ Ending) (fr rg : List ℕ) (k : State → Final) (l : State → List State) → ((t : State) → (k t).used ≡ length (l t))
     → (onward 1 x fr rg k).used ≡ suc (length (begun_after x fr rg l))
-after_counts (Go d) fr rg k l h = let e : (k (state fr rg d)).used ≡ length (l (state fr rg d)) = h (state fr rg d) in omega arith
-after_counts (Ends e) fr rg k l h = refl
+after_counts (Ok d) fr rg k l h = let e : (k (state fr rg d)).used ≡ length (l (state fr rg d)) = h (state fr rg d) in omega arith
+after_counts (Err e) fr rg k l h = refl
 
 module _ (p : Program) (most : ℕ) where
   for_counts : (n left : ℕ) (s : State) → left ≤ n → (run_for p unit most n left s).used ≡ length (begun_for p unit most n left s)

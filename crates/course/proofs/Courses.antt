@@ -11,8 +11,6 @@ use Rattle.image.specs.Program.{Program}
 use Rattle.image.specs.Parts.{length_of}
 use Rattle.exec.specs.declared.Ending.{Ending}
 use Rattle.exec.specs.declared.Ending.TheVariants.{Returned, Trapped, FrameRoom, RegisterRoom}
-use Rattle.exec.specs.declared.Step.{Step}
-use Rattle.exec.specs.declared.Step.TheVariants.{Go, Ends}
 use Rattle.exec.specs.Price.{Price, Fair}
 use Rattle.exec.specs.Lent.{State, state, top_at}
 use Rattle.exec.specs.Step.{Stepped, stepped, stops, next_instr, step, is_past, Inside}
@@ -22,6 +20,7 @@ use Rattle.exec.proofs.Outer.{going}
 use Rattle.course.specs.Course.{ahead, next, after, GoesOn, Leads, charged, Stop, Course}
 use Rattle.course.specs.Course.Stop.{past, dry, acts}
 use Rattle.course.proofs.Cases.{step_cases}
+use Rattle.std.specs.Prelude.{Result, Ok, Err}
 
 -- endings told apart
 abbrev pub end_code : Ending → ℕ
@@ -32,11 +31,11 @@ end_code RegisterRoom = 12
 
 -- ---- a step that ends the run writes nothing
 abbrev Quiet : State → Stepped → Type 0
-Quiet s o = (e : Ending) → o.answer ≡ Ends e → o ≡ stops s (Ends e)
+Quiet s o = (e : Ending) → o.answer ≡ Err e → o ≡ stops s (Err e)
 
 pub ends_quietly : (p : Program) (most : ℕ) (s : State) → Quiet s (step p most s)
 ends_quietly p most s =
-    let stop : (e : Ending) → Quiet s (stops s (Ends e)) = λ e x q. ap (stops s) q in
+    let stop : (e : Ending) → Quiet s (stops s (Err e)) = λ e x q. ap (stops s) q in
     step_cases p most s (Quiet s) (record {
       on = λ _ _ e q. absurd (going _ e q);
       to = λ _ _ _ e q. absurd (going _ e q);
@@ -92,14 +91,14 @@ module _ (p : Program) (price : Price) (most : ℕ) where
       }
 
   -- the step of an instruction that is paid for
-  acting : (left : ℕ) (s : State) (k : State → Final) (x : Step) (fr rg : List ℕ) → step p most s ≡ stepped x fr rg → Inside p s → cost_at p price s ≤ left
+  acting : (left : ℕ) (s : State) (k : State → Final) (x : Result ℕ Ending) (fr rg : List ℕ) → step p most s ≡ stepped x fr rg → Inside p s → cost_at p price s ≤ left
       → ((t : State) → Course p price most (left - cost_at p price s) t (k t)) → Course p price most left s (onward (cost_at p price s) x fr rg k)
-  acting left s k (Go d) fr rg e i a h =
+  acting left s k (Ok d) fr rg e i a h =
       let t : next p most s ≡ state fr rg d = ap (λ (o : Stepped). ahead s o.answer o.frames o.regs) e in
       further left s (k (state fr rg d)) i (subst GoesOn (sym (ap (λ (o : Stepped). o.answer) e)) tt) a
       (subst (λ (u : State). Course p price most (left - cost_at p price s) u (k (state fr rg d))) (sym t) (h (state fr rg d)))
-  acting left s k (Ends x) fr rg e i a h =
-      let q : step p most s ≡ stops s (Ends x) = ends_quietly p most s x (ap (λ (o : Stepped). o.answer) e) in
+  acting left s k (Err x) fr rg e i a h =
+      let q : step p most s ≡ stops s (Err x) = ends_quietly p most s x (ap (λ (o : Stepped). o.answer) e) in
       over left s (final x (cost_at p price s) fr rg) (cost_at p price s) (acts refl i a q) refl
       (ap (λ (o : Stepped). o.frames) (sym e ∙ q)) (ap (λ (o : Stepped). o.regs) (sym e ∙ q))
 
@@ -145,9 +144,9 @@ module _ (p : Program) (price : Price) (most : ℕ) where
         ∙ onward_same (cost_at p price s) o.answer o.frames o.regs _ _
         (λ t. enough p price most fair fuel (fuel - cost_at p price s) (fuel - cost_at p price s) t (omega arith) (omega arith))
 
-    goes_ahead : (c : ℕ) (s : State) (x : Step) (fr rg : List ℕ) (k : State → Final) → GoesOn x → onward c x fr rg k ≡ later c (k (ahead s x fr rg))
-    goes_ahead c s (Go d) fr rg k g = refl
-    goes_ahead c s (Ends e) fr rg k g = absurd g
+    goes_ahead : (c : ℕ) (s : State) (x : Result ℕ Ending) (fr rg : List ℕ) (k : State → Final) → GoesOn x → onward c x fr rg k ≡ later c (k (ahead s x fr rg))
+    goes_ahead c s (Ok d) fr rg k g = refl
+    goes_ahead c s (Err e) fr rg k g = absurd g
 
     pub run_next : (fuel : ℕ) (s : State) → Inside p s → cost_at p price s ≤ fuel → GoesOn (step p most s).answer
         → run p price most fuel s ≡ later (cost_at p price s) (run p price most (fuel - cost_at p price s) (next p most s))

@@ -16,8 +16,6 @@ use Rattle.runtime.specs.Trap.{trap_code}
 use Rattle.image.specs.Program.{Program}
 use Rattle.exec.specs.declared.Ending.{Ending}
 use Rattle.exec.specs.declared.Ending.TheVariants.{Returned, Trapped, FrameRoom, RegisterRoom}
-use Rattle.exec.specs.declared.Step.{Step}
-use Rattle.exec.specs.declared.Step.TheVariants.{Go, Ends}
 use Rattle.exec.specs.Price.{Price, Fair, unit}
 use Rattle.exec.specs.Lent.{State, state}
 use Rattle.exec.specs.Step.{Stepped, stepped, stops, next_instr, step, is_past, Inside}
@@ -33,6 +31,7 @@ use Rattle.course.proofs.Traps.{Own, OwnWay, straight_own}
 use Rattle.course.proofs.Along.{Keeps}
 use Rattle.course.proofs.Counts.{used_begun}
 use Rattle.course.proofs.Entered.{entered_cases}
+use Rattle.std.specs.Prelude.{Result, Ok, Err}
 
 -- ---- neither InvalidPc nor FuelExceeded comes out of a step
 abbrev pub OfStep : Ending → Type 0
@@ -78,7 +77,7 @@ step_own p most s =
     })
 
 -- so a step that ends the run is no case of either
-ends_own : (p : Program) (most : ℕ) (s : State) (e : Ending) → step p most s ≡ stops s (Ends e) → OfStep e
+ends_own : (p : Program) (most : ℕ) (s : State) (e : Ending) → step p most s ≡ stops s (Err e) → OfStep e
 ends_own p most s e q = subst (λ (o : Stepped). Keeps (λ t. Unit {0}) OfStep o) q (step_own p most s)
 
 module _ (p : Program) (price : Price) (most fuel : ℕ) (s : State) (f : Final) (c : Course p price most fuel s f) where
@@ -112,11 +111,11 @@ module _ (p : Program) (price : Price) (fair : Fair price) (most fuel : ℕ) (s 
 
 -- ---- the instructions begun are the steps
 module _ (p : Program) (price : Price) (most : ℕ) where
-  after_trail : (s : State) (x : Step) (fr rg : List ℕ) (k : State → List State) → ((t : State) → k t ≡ trail p most (length (k t)) t)
+  after_trail : (s : State) (x : Result ℕ Ending) (fr rg : List ℕ) (k : State → List State) → ((t : State) → k t ≡ trail p most (length (k t)) t)
       → begun_after x fr rg k ≡ trail p most (length (begun_after x fr rg k)) (ahead s x fr rg)
   unfolding trail
-  after_trail s (Go d) fr rg k h = h (state fr rg d)
-  after_trail s (Ends e) fr rg k h = refl
+  after_trail s (Ok d) fr rg k h = h (state fr rg d)
+  after_trail s (Err e) fr rg k h = refl
 
   for_trail : (n left : ℕ) (s : State) → begun_for p price most n left s ≡ trail p most (length (begun_for p price most n left s)) s
   unfolding begun_for trail
@@ -148,13 +147,13 @@ module _ (p : Program) (price : Price) (most : ℕ) where
   unfolding Begin Leads after
   lone s i = (tt, i)
 
-  after_begin : (s : State) → Inside p s → (x : Step) (fr rg : List ℕ) (k : State → List State) → step p most s ≡ stepped x fr rg
+  after_begin : (s : State) → Inside p s → (x : Result ℕ Ending) (fr rg : List ℕ) (k : State → List State) → step p most s ≡ stepped x fr rg
       → ((t : State) → Begin p most (length (k t)) t) → Begin p most (suc (length (begun_after x fr rg k))) s
-  after_begin s i (Go d) fr rg k e h =
+  after_begin s i (Ok d) fr rg k e h =
       let t : next p most s ≡ state fr rg d = ap (λ (o : Stepped). ahead s o.answer o.frames o.regs) e in
       grow s i (subst GoesOn (sym (ap (λ (o : Stepped). o.answer) e)) tt) (length (k (state fr rg d)))
       (subst (Begin p most (length (k (state fr rg d)))) (sym t) (h (state fr rg d)))
-  after_begin s i (Ends x) fr rg k e h = lone s i
+  after_begin s i (Err x) fr rg k e h = lone s i
 
   for_begin : (n left : ℕ) (s : State) → Begin p most (length (begun_for p price most n left s)) s
   unfolding begun_for Begin

@@ -17,17 +17,9 @@ use Rattle.runtime.specs.declared.CoreTrap.TheVariants.{InvalidPc, InvalidRegist
 use Rattle.value.specs.Checked.{signed, between, natural, is_zero, checked_i32, checked_u32}
 use Rattle.value.specs.Fixed.{fx_of, fx_product, fx_quotient}
 use Rattle.value.specs.Value.{bool_kind}
-use Rattle.value.specs.declared.checked.CheckedI32.{CheckedI32}
-use Rattle.value.specs.declared.checked.CheckedI32.TheVariants as i32
-use Rattle.value.specs.declared.checked.CheckedU32.{CheckedU32}
-use Rattle.value.specs.declared.checked.CheckedU32.TheVariants as u32
 use Rattle.instr.specs.declared.Instr.{Instr}
 use Rattle.image.specs.Fields.{Fields, forms, fields_of}
 use Rattle.image.specs.Fields.Use.{register, target}
-use Rattle.operate.specs.declared.Outcome.{Outcome}
-use Rattle.operate.specs.declared.Outcome.TheVariants.{Value, Trap, NoValue}
-use Rattle.operate.specs.declared.read.Read.{Read}
-use Rattle.operate.specs.declared.read.Read.TheVariants.{Payload, Fault}
 use Rattle.operate.specs.Rule.{Rule, valued, bool_result, i32_result, u32_result, fx_result}
 use Rattle.operate.specs.Rule.Rule.{nothing, loads, one, two, dividing, shortcut, moves}
 use Rattle.operate.specs.Opcodes.{rules, rule_of}
@@ -38,9 +30,10 @@ use Rattle.straight.specs.Flow.Flow.{computes, goes_on, ends, asserts, jumps, ju
 use Rattle.straight.specs.declared.Deed.{Deed}
 use Rattle.straight.specs.declared.Deed.TheVariants as deed
 use Rattle.straight.specs.declared.Went.{Went}
-use Rattle.straight.specs.declared.Went.TheVariants.{On, To, Fails, Leaves}
+use Rattle.straight.specs.declared.Went.TheVariants.{On, To, Leaves}
 use Rattle.straight.proofs.Flows.{leaves_flow}
 use Rattle.straight.specs.Straight.{storing, tested, on_condition, asked, local, stored, done, straight}
+use Rattle.std.specs.Prelude.{Result, Ok, Err, Option, Some, None}
 
 -- a trap that an instruction has of itself: none that belongs to the run or to a Call, and InvalidRegister only where R
 abbrev pub Own : Type 0 → CoreTrap → Type 0
@@ -67,10 +60,10 @@ weaker R InvalidFunction h = h
 weaker R AssertFailed h = tt
 weaker R ExplicitTrap h = tt
 
-abbrev OwnOutcome : Type 0 → Outcome → Type 0
-OwnOutcome R (Value v) = Unit {0}
-OwnOutcome R (Trap t) = Own R t
-OwnOutcome R NoValue = Unit {0}
+abbrev OwnOutcome : Type 0 → Result (Option ℕ) CoreTrap → Type 0
+OwnOutcome R (Ok (Some v)) = Unit {0}
+OwnOutcome R (Err t) = Own R t
+OwnOutcome R (Ok None) = Unit {0}
 
 -- ---- what rules compute from payloads
 abbrev Tame : Rule → Type 0
@@ -82,26 +75,26 @@ Tame (dividing kind f) = (l r : ℕ) → OwnOutcome ⊥ (f l r)
 Tame (shortcut stop) = Unit {0}
 Tame moves = Unit {0}
 
-i32_either : (b : Bool) (x y : CheckedI32) → OwnOutcome ⊥ (i32_result x) → OwnOutcome ⊥ (i32_result y) → OwnOutcome ⊥ (i32_result (pick b x y))
+i32_either : (b : Bool) (x y : Result ℤ CoreTrap) → OwnOutcome ⊥ (i32_result x) → OwnOutcome ⊥ (i32_result y) → OwnOutcome ⊥ (i32_result (pick b x y))
 i32_either true x y h k = h
 i32_either false x y h k = k
 
-u32_either : (b : Bool) (x y : CheckedU32) → OwnOutcome ⊥ (u32_result x) → OwnOutcome ⊥ (u32_result y) → OwnOutcome ⊥ (u32_result (pick b x y))
+u32_either : (b : Bool) (x y : Result ℕ CoreTrap) → OwnOutcome ⊥ (u32_result x) → OwnOutcome ⊥ (u32_result y) → OwnOutcome ⊥ (u32_result (pick b x y))
 u32_either true x y h k = h
 u32_either false x y h k = k
 
-fx_either : (b : Bool) (x y : CheckedI32) → OwnOutcome ⊥ (fx_result (fx_of x)) → OwnOutcome ⊥ (fx_result (fx_of y)) → OwnOutcome ⊥ (fx_result (fx_of (pick b x y)))
+fx_either : (b : Bool) (x y : Result ℤ CoreTrap) → OwnOutcome ⊥ (fx_result (fx_of x)) → OwnOutcome ⊥ (fx_result (fx_of y)) → OwnOutcome ⊥ (fx_result (fx_of (pick b x y)))
 fx_either true x y h k = h
 fx_either false x y h k = k
 
 i32_tame : (z : ℤ) → OwnOutcome ⊥ (i32_result (checked_i32 z))
-i32_tame z = i32_either (between (neg_ℤ (pos (2 ^ 31))) (pos (2 ^ 31 - 1)) z) (i32.Value z) (i32.Trap IntegerOverflow) tt tt
+i32_tame z = i32_either (between (neg_ℤ (pos (2 ^ 31))) (pos (2 ^ 31 - 1)) z) (Ok z) (Err IntegerOverflow) tt tt
 
 u32_tame : (z : ℤ) → OwnOutcome ⊥ (u32_result (checked_u32 z))
-u32_tame z = u32_either (between (pos 0) (pos (2 ^ 32 - 1)) z) (u32.Value (natural z)) (u32.Trap IntegerOverflow) tt tt
+u32_tame z = u32_either (between (pos 0) (pos (2 ^ 32 - 1)) z) (Ok (natural z)) (Err IntegerOverflow) tt tt
 
 fx_tame : (z : ℤ) → OwnOutcome ⊥ (fx_result (fx_of (checked_i32 z)))
-fx_tame z = fx_either (between (neg_ℤ (pos (2 ^ 31))) (pos (2 ^ 31 - 1)) z) (i32.Value z) (i32.Trap IntegerOverflow) tt tt
+fx_tame z = fx_either (between (neg_ℤ (pos (2 ^ 31))) (pos (2 ^ 31 - 1)) z) (Ok z) (Err IntegerOverflow) tt tt
 
 tame_rows : (op : ℕ) → op < 51 → Tame (rule_of op)
 unfolding rules rule_of bool_result
@@ -112,13 +105,13 @@ tame_rows op h =
     & (λ q. tt) & any & any & any & any & any & (λ q. tt) & (λ q. tt) & (λ q. tt)
     & (λ q. tt) & tt & tt & any & any
     & (λ l r. i32_tame (signed l +ℤ signed r)) & (λ l r. i32_tame (signed l -ℤ signed r)) & (λ l r. i32_tame (signed l *ℤ signed r))
-    & (λ l r. i32_either (is_zero (signed r)) (i32.Trap DivisionByZero) _ tt (i32_tame (quot_z (signed l) (signed r))))
+    & (λ l r. i32_either (is_zero (signed r)) (Err DivisionByZero) _ tt (i32_tame (quot_z (signed l) (signed r))))
     & any & any & any & any & any
     & (λ l r. u32_tame (pos l +ℤ pos r)) & (λ l r. u32_tame (pos l -ℤ pos r)) & (λ l r. u32_tame (pos l *ℤ pos r))
-    & (λ l r. u32_either (is_zero (pos r)) (u32.Trap DivisionByZero) _ tt (u32_tame (quot_z (pos l) (pos r))))
+    & (λ l r. u32_either (is_zero (pos r)) (Err DivisionByZero) _ tt (u32_tame (quot_z (pos l) (pos r))))
     & any & any & any & any & any
     & (λ l r. fx_tame (signed l +ℤ signed r)) & (λ l r. fx_tame (signed l -ℤ signed r)) & (λ l r. fx_tame (fx_product (signed l) (signed r)))
-    & (λ l r. fx_either (is_zero (signed r)) (i32.Trap DivisionByZero) _ tt (fx_tame (fx_quotient (signed l) (signed r))))
+    & (λ l r. fx_either (is_zero (signed r)) (Err DivisionByZero) _ tt (fx_tame (fx_quotient (signed l) (signed r))))
     & any & any & any & any & any
     & tt
     & tt) (omega arith) h
@@ -194,38 +187,38 @@ pub record Misses (R : Type 0) (i : Instr) (n : ℕ) : Type 0 where
   pub c : (fields_of i.op).c ≡ register → n ≤ i.c → R
 
 -- how the frame goes on: to a target that the form has, or with a trap of its own, or it is left by Call, Ret or what is no opcode
-abbrev pub OwnWay : Type 0 → Instr → Went → Type 0
-OwnWay R i On = Unit {0}
-OwnWay R i (To n) = ((fields_of i.op).w ≡ target) × (n ≡ i.w)
-OwnWay R i (Fails t) = Own R t
-OwnWay R i Leaves = 54 ≤ i.op
+abbrev pub OwnWay : Type 0 → Instr → Result Went CoreTrap → Type 0
+OwnWay R i (Ok On) = Unit {0}
+OwnWay R i (Ok (To n)) = ((fields_of i.op).w ≡ target) × (n ≡ i.w)
+OwnWay R i (Err t) = Own R t
+OwnWay R i (Ok Leaves) = 54 ≤ i.op
 
 module _ (R : Type 0) (w : List ℕ) where
-  abbrev OwnRead : Read → Type 0
-  OwnRead (Payload x) = Unit {0}
-  OwnRead (Fault t) = Own R t
+  abbrev OwnRead : Result ℕ CoreTrap → Type 0
+  OwnRead (Ok x) = Unit {0}
+  OwnRead (Err t) = Own R t
 
   read_own : (kind r : ℕ) → (length w ≤ r → R) → OwnRead (read_as kind w r)
   unfolding read_as
   read_own kind r h = go (leb (length w) r) refl (is_of kind (get_or w r 0))
     where
-      go : (b : Bool) → leb (length w) r ≡ b → (c : Bool) → OwnRead (pick b (Fault InvalidRegister) (pick c (Payload (get_or w r 0 % 2 ^ 32)) (Fault TypeMismatch)))
+      go : (b : Bool) → leb (length w) r ≡ b → (c : Bool) → OwnRead (pick b (Err InvalidRegister) (pick c (Ok (get_or w r 0 % 2 ^ 32)) (Err TypeMismatch)))
       go true e c = h (leb-true _ _ e)
       go false e true = tt
       go false e false = tt
 
-  reading_own : (x : Read) (f : ℕ → Outcome) → OwnRead x → ((v : ℕ) → OwnOutcome R (f v)) → OwnOutcome R (reading x f)
-  reading_own (Payload v) f h k = k v
-  reading_own (Fault t) f h k = h
+  reading_own : (x : Result ℕ CoreTrap) (f : ℕ → Result (Option ℕ) CoreTrap) → OwnRead x → ((v : ℕ) → OwnOutcome R (f v)) → OwnOutcome R (reading x f)
+  reading_own (Ok v) f h k = k v
+  reading_own (Err t) f h k = h
 
-  either_own : (b : Bool) (x y : Outcome) → OwnOutcome R x → OwnOutcome R y → OwnOutcome R (pick b x y)
+  either_own : (b : Bool) (x y : Result (Option ℕ) CoreTrap) → OwnOutcome R x → OwnOutcome R y → OwnOutcome R (pick b x y)
   either_own true x y h k = h
   either_own false x y h k = k
 
-  tame_own : (o : Outcome) → OwnOutcome ⊥ o → OwnOutcome R o
-  tame_own (Value v) h = tt
-  tame_own (Trap t) h = weaker R t h
-  tame_own NoValue h = tt
+  tame_own : (o : Result (Option ℕ) CoreTrap) → OwnOutcome ⊥ o → OwnOutcome R o
+  tame_own (Ok (Some v)) h = tt
+  tame_own (Err t) h = weaker R t h
+  tame_own (Ok None) h = tt
 
   module _ (i : Instr) (m : Misses R i (length w)) where
     computed_own : (r : Rule) → Tame r → Reads r (fields_of i.op) → OwnOutcome R (computed r i w)
@@ -238,7 +231,7 @@ module _ (R : Type 0) (w : List ℕ) where
         (λ l. reading_own (read_as kind w i.c) _ (read_own kind i.c (m.c q.1)) (λ r. tame_own (f l r) (t l r)))
     computed_own (dividing kind f) t q =
         reading_own (read_as kind w i.c) _ (read_own kind i.c (m.c q.1))
-        (λ r. either_own (eqb r 0) (Trap DivisionByZero) _ tt
+        (λ r. either_own (eqb r 0) (Err DivisionByZero) _ tt
         (reading_own (read_as kind w i.b) _ (read_own kind i.b (m.b q.0)) (λ l. tame_own (f l r) (t l r))))
     computed_own (shortcut stop) t q =
         reading_own (read_as bool_kind w i.b) _ (read_own bool_kind i.b (m.b q.0))
@@ -246,29 +239,29 @@ module _ (R : Type 0) (w : List ℕ) where
         (reading_own (read_as bool_kind w i.c) _ (read_own bool_kind i.c (m.c q.1)) (λ r. tt)))
     computed_own moves t q = go (leb (length w) i.b) refl
       where
-        go : (b : Bool) → leb (length w) i.b ≡ b → OwnOutcome R (pick b (Trap InvalidRegister) (Value (get_or w i.b 0)))
+        go : (b : Bool) → leb (length w) i.b ≡ b → OwnOutcome R (pick b (Err InvalidRegister) (Ok (Some (get_or w i.b 0))))
         go true e = m.b q (leb-true _ _ e)
         go false e = tt
 
     -- what is asked for: a value is stored only by a form that names a dst
-    abbrev OwnDeed : Deed → Type 0
-    OwnDeed (deed.Put v) = (fields_of i.op).a ≡ register
-    OwnDeed deed.Next = Unit {0}
-    OwnDeed (deed.Jump n) = ((fields_of i.op).w ≡ target) × (n ≡ i.w)
-    OwnDeed (deed.Trap t) = Own R t
-    OwnDeed deed.Leave = 54 ≤ i.op
+    abbrev OwnDeed : Result Deed CoreTrap → Type 0
+    OwnDeed (Ok (deed.Put v)) = (fields_of i.op).a ≡ register
+    OwnDeed (Ok deed.Next) = Unit {0}
+    OwnDeed (Ok (deed.Jump n)) = ((fields_of i.op).w ≡ target) × (n ≡ i.w)
+    OwnDeed (Err t) = Own R t
+    OwnDeed (Ok deed.Leave) = 54 ≤ i.op
 
-    storing_own : (o : Outcome) → OwnOutcome R o → (fields_of i.op).a ≡ register → OwnDeed (storing o)
+    storing_own : (o : Result (Option ℕ) CoreTrap) → OwnOutcome R o → (fields_of i.op).a ≡ register → OwnDeed (storing o)
     unfolding storing
-    storing_own (Value v) h e = e
-    storing_own (Trap t) h e = h
-    storing_own NoValue h e = tt
+    storing_own (Ok (Some v)) h e = e
+    storing_own (Err t) h e = h
+    storing_own (Ok None) h e = tt
 
-    tested_own : (x : Read) (f : ℕ → Deed) → OwnRead x → ((b : ℕ) → OwnDeed (f b)) → OwnDeed (tested x f)
-    tested_own (Payload b) f h k = k b
-    tested_own (Fault t) f h k = h
+    tested_own : (x : Result ℕ CoreTrap) (f : ℕ → Result Deed CoreTrap) → OwnRead x → ((b : ℕ) → OwnDeed (f b)) → OwnDeed (tested x f)
+    tested_own (Ok b) f h k = k b
+    tested_own (Err t) f h k = h
 
-    either_deed : (b : Bool) (x y : Deed) → OwnDeed x → OwnDeed y → OwnDeed (pick b x y)
+    either_deed : (b : Bool) (x y : Result Deed CoreTrap) → OwnDeed x → OwnDeed y → OwnDeed (pick b x y)
     either_deed true x y h k = h
     either_deed false x y h k = k
 
@@ -278,24 +271,24 @@ module _ (R : Type 0) (w : List ℕ) where
     asked_own goes_on q = tt
     asked_own (ends t) q = weaker R t q
     asked_own asserts q =
-        tested_own (read_as bool_kind w i.a) _ (read_own bool_kind i.a (m.a q)) (λ b. either_deed (eqb b 0) (deed.Trap AssertFailed) deed.Next tt tt)
+        tested_own (read_as bool_kind w i.a) _ (read_own bool_kind i.a (m.a q)) (λ b. either_deed (eqb b 0) (Err AssertFailed) (Ok deed.Next) tt tt)
     asked_own jumps q = (q, refl)
     asked_own (jumps_if truth) q =
         tested_own (read_as bool_kind w i.a) _ (read_own bool_kind i.a (m.a q.0))
-        (λ b. either_deed (eqb b truth) (deed.Jump i.w) deed.Next (q.1, refl) tt)
+        (λ b. either_deed (eqb b truth) (Ok (deed.Jump i.w)) (Ok deed.Next) (q.1, refl) tt)
     asked_own leaves q = q
 
-    done_own : (d : Deed) → OwnDeed d → OwnWay R i (done d i.a w).went
+    done_own : (d : Result Deed CoreTrap) → OwnDeed d → OwnWay R i (done d i.a w).went
     unfolding done stored
-    done_own (deed.Put v) h = go (ltb i.a (length w)) refl
+    done_own (Ok (deed.Put v)) h = go (ltb i.a (length w)) refl
       where
-        go : (b : Bool) → ltb i.a (length w) ≡ b → OwnWay R i (pick b (local On (set w i.a v)) (local (Fails InvalidRegister) w)).went
+        go : (b : Bool) → ltb i.a (length w) ≡ b → OwnWay R i (pick b (local (Ok On) (set w i.a v)) (local (Err InvalidRegister) w)).went
         go true e = tt
         go false e = m.a h (ltb-false _ _ e)
-    done_own deed.Next h = tt
-    done_own (deed.Jump n) h = h
-    done_own (deed.Trap t) h = h
-    done_own deed.Leave h = h
+    done_own (Ok deed.Next) h = tt
+    done_own (Ok (deed.Jump n)) h = h
+    done_own (Err t) h = h
+    done_own (Ok deed.Leave) h = h
 
     pub straight_own : OwnWay R i (straight i w).went
     unfolding straight

@@ -5,8 +5,6 @@ use Rattle.image.specs.Program.{Program}
 use Rattle.image.specs.Parts.{functions_of, regs_of, length_of}
 use Rattle.exec.specs.declared.Ending.{Ending}
 use Rattle.exec.specs.declared.Ending.TheVariants.{Returned, Trapped, FrameRoom, RegisterRoom}
-use Rattle.exec.specs.declared.Step.{Step}
-use Rattle.exec.specs.declared.Step.TheVariants.{Go, Ends}
 use Rattle.exec.specs.Price.{Price, unit}
 use Rattle.lent.specs.Records.{frame_words}
 use Rattle.exec.specs.Lent.{State, state, top_at}
@@ -14,12 +12,13 @@ use Rattle.exec.specs.Step.{stops, step, Inside}
 use Rattle.exec.specs.Run.{Final, cost_at}
 use Rattle.exec.specs.Begun.{begun}
 use Rattle.exec.specs.Execute.{entry_state}
+use Rattle.std.specs.Prelude.{Result, Ok, Err}
 
 -- ---- steps one after another
 -- a step leads to what it leaves, if it goes on, and nowhere else if it ends the run
-abbrev pub ahead : State → Step → List ℕ → List ℕ → State
-ahead s (Go d) frames regs = state frames regs d
-ahead s (Ends e) frames regs = s
+abbrev pub ahead : State → Result ℕ Ending → List ℕ → List ℕ → State
+ahead s (Ok d) frames regs = state frames regs d
+ahead s (Err e) frames regs = s
 
 abbrev pub next : Program → ℕ → State → State
 next p most s = ahead s (step p most s).answer (step p most s).frames (step p most s).regs
@@ -34,9 +33,9 @@ unfoldable pub trail : Program → ℕ → ℕ → State → List State
 trail p most zero s = []
 trail p most (suc n) s = s ∷ trail p most n (next p most s)
 
-abbrev pub GoesOn : Step → Type 0
-GoesOn (Go d) = Unit {0}
-GoesOn (Ends e) = ⊥
+abbrev pub GoesOn : Result ℕ Ending → Type 0
+GoesOn (Ok d) = Unit {0}
+GoesOn (Err e) = ⊥
 
 -- each of the first n steps is one of an instruction, and goes on
 unfoldable pub Leads : Program → ℕ → ℕ → State → Type 0
@@ -65,7 +64,7 @@ pub data Stop (p : Program) (price : Price) (most left : ℕ) (s : State) (what 
       → Stop p price most left s what charge
   -- the instruction ends it, and writes nothing
   acts : charge ≡ cost_at p price s
-      → Inside p s → cost_at p price s ≤ left → step p most s ≡ stops s (Ends what)
+      → Inside p s → cost_at p price s ≤ left → step p most s ≡ stops s (Err what)
       → Stop p price most left s what charge
 
 -- it is refused for room

@@ -1,28 +1,24 @@
 -- A turn in a window of the lent records is a turn of the machine that they are the records of. Assumes nothing.
 use Prim.Native.Nat.{ℕ, ◌+◌, ◌*◌, ◌-◌, ◌≤◌, ◌<◌}
-use mathlib.Core.Path.{◌≡◌, refl, sym, ap, ◌∙◌, subst}
-use mathlib.Core.Bool.{true, false}
+use mathlib.Core.Path.{◌≡◌, refl, sym, ap, ◌∙◌}
 use mathlib.Core.List.{List}
 use mathlib.Core.Logic.{◌≢◌}
 use native.Mathlib.Omega.{arith}
-use lib.Dec.{T as Holds}
 use lib.ListN.{length, set, take, length-set}
 use lib.Seq.{get_or-take, get_or-set_same, get_or-set_other, set-set, set-get_or}
+use Rattle.std.specs.Prelude.{Result, Ok, Err}
 use Rattle.image.specs.Records.{form1}
 use Rattle.image.specs.Program.{Program, decode}
 use Rattle.lent.specs.declared.FrameRecord.{FrameRecord}
 use Rattle.lent.specs.Records.{no_record, record_at, words_of}
 use Rattle.lent.proofs.Words.{function_word_lem, place_word_lem, dst_word_lem, first_word}
 use Rattle.exec.specs.declared.Ending.{Ending}
-use Rattle.exec.specs.declared.Step.{Step}
-use Rattle.exec.specs.declared.Step.TheVariants.{Go, Ends}
 use Rattle.exec.specs.declared.in_frames.Machine.{Machine}
 use Rattle.exec.specs.Price.{unit}
 use Rattle.exec.specs.Lent.{record_in, state}
-use Rattle.exec.specs.Run.{Final, later, run}
-use Rattle.exec.specs.Execute.{ended, outcome_of}
+use Rattle.exec.specs.Run.{later}
 use Rattle.exec.specs.Burst.{Turned, turned, turn}
-use Rattle.exec.specs.InFrames.{over_with, on_with, held, comes_to, Stands, Onward, shown, window_of, seen}
+use Rattle.exec.specs.InFrames.{on_with, held, comes_to, Stands, Onward, shown, window_of, seen}
 use Rattle.exec.proofs.Runs.{unit_fair}
 use Rattle.exec.proofs.Keeps.{good_ready}
 use Rattle.exec.proofs.Outer.{going, after_turn, run_turn, turn_fuel, turn_good, turn_less, after_later, turn_over, turn_on}
@@ -37,20 +33,10 @@ record_take : (xs : List ℕ) (n i : ℕ) → i < n → record_in xs i ≡ recor
 record_take xs n i h =
     sym (rw (get_or-take (4 * n) xs (4 * i) 0 (omega arith), get_or-take (4 * n) xs (4 * i + 1) 0 (omega arith), get_or-take (4 * n) xs (4 * i + 2) 0 (omega arith), get_or-take (4 * n) xs (4 * i + 3) 0 (omega arith)))
 
--- the two told apart
-pub false_true : false ≡ true → ⊥
-false_true e = subst Holds (sym e) tt
-
 -- how deep a step leads
-abbrev depth_of : Step → ℕ
-depth_of (Go n) = n
-depth_of (Ends e) = 0
-
--- ---- what a machine that runs comes to
-pub comes_running : (p : Program) (m : Machine) (frames : List FrameRecord) (rg : List ℕ) → m.running ≡ true
-    → comes_to p m frames rg ≡ ended (later (m.fuel - m.left) (run p unit m.most m.left (state (words_of (held m frames)) rg m.depth)))
-unfolding comes_to
-comes_running p m frames rg e = rw e
+abbrev depth_of : Result ℕ Ending → ℕ
+depth_of (Ok n) = n
+depth_of (Err e) = 0
 
 module _ (bytes : List ℕ) (m : Machine) (below : FrameRecord) (rg : List ℕ) (l : ℕ) (words rg' : List ℕ) where
   abbrev p : Program
@@ -69,10 +55,10 @@ module _ (bytes : List ℕ) (m : Machine) (below : FrameRecord) (rg : List ℕ) 
   small = turn p unit (m.most - (d - k)) m.left (state (words_of (seen m below)) rg k)
 
   -- the turn in the window came to this
-  abbrev Came : Step → Type 0
+  abbrev Came : Result ℕ Ending → Type 0
   Came x = turned l x (take (4 * size) words) rg' ≡ small
 
-  module _ (frames : List FrameRecord) (s : Stands bytes m frames (length rg)) (found : below ≡ record_at frames m.below) where
+  module _ (frames : List FrameRecord) (s : Stands bytes m frames (length rg)) (found : below ≡ record_at frames (m.depth - 2)) where
     some : 1 ≤ d
     some = s.good.some
 
@@ -118,12 +104,12 @@ module _ (bytes : List ℕ) (m : Machine) (below : FrameRecord) (rg : List ℕ) 
     once r = set-set frames (d - 1) m.top r
 
     -- it ended
-    ended_so : (e : Ending) → Came (Ends e) → Both zs ws d k whole small → whole ≡ turned l (Ends e) (words_of frames') rg'
+    ended_so : (e : Ending) → Came (Err e) → Both zs ws d k whole small → whole ≡ turned l (Err e) (words_of frames') rg'
     ended_so e c (ends n e₁ r rg₁ o u) =
-        let z : turned l (Ends e) (take (4 * size) words) rg' ≡ turned n (Ends e₁) (words_of (set ws (k - 1) r)) rg₁ = c ∙ u in
+        let z : turned l (Err e) (take (4 * size) words) rg' ≡ turned n (Err e₁) (words_of (set ws (k - 1) r)) rg₁ = c ∙ u in
         let is : stored ≡ r = read (set ws (k - 1) r) (k - 1) inside (ap (λ (t : Turned). t.frames) z) ∙ kept r in
         o ∙ sym (ap (λ (t : Turned). turned t.left t.answer (words_of (set zs (d - 1) r)) t.regs) z)
-        ∙ ap (λ (f : List FrameRecord). turned l (Ends e) (words_of f) rg') (once r ∙ ap (set frames (d - 1)) (sym is))
+        ∙ ap (λ (f : List FrameRecord). turned l (Err e) (words_of f) rg') (once r ∙ ap (set frames (d - 1)) (sym is))
     ended_so e c (pushes n r q rg₁ h g o u) = absurd (going _ _ (sym (ap (λ (t : Turned). t.answer) (c ∙ u))))
     ended_so e c (pops n r rg₁ h o u) = absurd (going _ _ (sym (ap (λ (t : Turned). t.answer) (c ∙ u))))
 
@@ -132,7 +118,7 @@ module _ (bytes : List ℕ) (m : Machine) (below : FrameRecord) (rg : List ℕ) 
       pub some_left : 1 ≤ j
       pub in_window : j ≤ 3
       pub within : d - k + j ≤ length frames
-      pub turn_is : whole ≡ turned l (Go (d - k + j)) (words_of (set frames' (d - k + j - 1) (record_in words (j - 1)))) rg'
+      pub turn_is : whole ≡ turned l (Ok (d - k + j)) (words_of (set frames' (d - k + j - 1) (record_in words (j - 1)))) rg'
 
     -- the numbers after a Ret
     record Fewer (j : ℕ) : Type 0 where
@@ -159,10 +145,10 @@ module _ (bytes : List ℕ) (m : Machine) (below : FrameRecord) (rg : List ℕ) 
           frames_apart = λ e. omega arith;
         }
 
-    gone_so : (j : ℕ) → Came (Go j) → Both zs ws d k whole small → Gone j
+    gone_so : (j : ℕ) → Came (Ok j) → Both zs ws d k whole small → Gone j
     gone_so j c (ends n e r rg₁ o u) = absurd (going _ _ (ap (λ (t : Turned). t.answer) (c ∙ u)))
     gone_so j c (pushes n r q rg₁ there here o u) =
-        let z : turned l (Go j) (take (4 * size) words) rg' ≡ turned n (Go (k + 1)) (words_of (set (set ws (k - 1) r) k q)) rg₁ = c ∙ u in
+        let z : turned l (Ok j) (take (4 * size) words) rg' ≡ turned n (Ok (k + 1)) (words_of (set (set ws (k - 1) r) k q)) rg₁ = c ∙ u in
         let j_is : j ≡ k + 1 = ap (λ (t : Turned). depth_of t.answer) z in
         let words_are : take (4 * size) words ≡ words_of (set (set ws (k - 1) r) k q) = ap (λ (t : Turned). t.frames) z in
         let is : stored ≡ r =
@@ -178,11 +164,11 @@ module _ (bytes : List ℕ) (m : Machine) (below : FrameRecord) (rg : List ℕ) 
           in_window = omega (arith, j_is, shown_least d some);
           within = let fits : d < length frames = rw length-set at there in rw depth_is (omega arith);
           turn_is =
-              o ∙ sym (ap (λ (t : Turned). turned t.left (Go (d + 1)) (words_of (set (set zs (d - 1) r) d q)) t.regs) z)
+              o ∙ sym (ap (λ (t : Turned). turned t.left (Ok (d + 1)) (words_of (set (set zs (d - 1) r) d q)) t.regs) z)
               ∙ rw (index_is, top_is, depth_is, is, once r);
         }
     gone_so j c (pops n r rg₁ deep o u) =
-        let z : turned l (Go j) (take (4 * size) words) rg' ≡ turned n (Go (k - 1)) (words_of (set ws (k - 1) r)) rg₁ = c ∙ u in
+        let z : turned l (Ok j) (take (4 * size) words) rg' ≡ turned n (Ok (k - 1)) (words_of (set ws (k - 1) r)) rg₁ = c ∙ u in
         let words_are : take (4 * size) words ≡ words_of (set ws (k - 1) r) = ap (λ (t : Turned). t.frames) z in
         let is : stored ≡ r = read (set ws (k - 1) r) (k - 1) inside words_are ∙ kept r in
         let f : Fewer j = fewer deep j (ap (λ (t : Turned). depth_of t.answer) z) in
@@ -197,47 +183,44 @@ module _ (bytes : List ℕ) (m : Machine) (below : FrameRecord) (rg : List ℕ) 
           in_window = f.most;
           within = rw f.depth f.fits;
           turn_is =
-              o ∙ sym (ap (λ (t : Turned). turned t.left (Go (d - 1)) (words_of (set zs (d - 1) r)) t.regs) z)
-              ∙ ap (λ (f : List FrameRecord). turned l (Go (d - 1)) (words_of f) rg') (once r ∙ ap (set frames (d - 1)) (sym is) ∙ sym (set-get_or frames' (d - 1 - 1) no_record))
+              o ∙ sym (ap (λ (t : Turned). turned t.left (Ok (d - 1)) (words_of (set zs (d - 1) r)) t.regs) z)
+              ∙ ap (λ (f : List FrameRecord). turned l (Ok (d - 1)) (words_of f) rg') (once r ∙ ap (set frames (d - 1)) (sym is) ∙ sym (set-get_or frames' (d - 1 - 1) no_record))
               ∙ rw (f.depth, top_is);
         }
 
-    -- ---- what the execution comes to stays the same
-    spent : (x : Step) (fr : List ℕ) → whole ≡ turned l x fr rg' → comes_to p m frames rg ≡ ended (after_turn p unit m.most m.fuel (turned l x fr rg'))
+    -- ---- what the run comes to stays the same
+    spent : (x : Result ℕ Ending) (fr : List ℕ) → whole ≡ turned l x fr rg' → comes_to p (Ok m) frames rg ≡ after_turn p unit m.most m.fuel (turned l x fr rg')
+    unfolding comes_to
     spent x fr e =
-        comes_running p m frames rg s.runs
-        ∙ ap (λ (f : Final). ended (later (m.fuel - m.left) f))
-        (run_turn p unit unit_fair m.most m.left (words_of zs) rg d s.good ∙ ap (after_turn p unit m.most m.left) e)
-        ∙ ap ended (after_later p unit m.most m.fuel m.left l x fr rg' (turn_fuel p unit unit_fair m.most m.left (words_of zs) rg d s.good l x fr rg' (sym e)) s.fuel)
+        ap (later (m.fuel - m.left)) (run_turn p unit unit_fair m.most m.left (words_of zs) rg d s.good ∙ ap (after_turn p unit m.most m.left) e)
+        ∙ after_later p unit m.most m.fuel m.left l x fr rg' (turn_fuel p unit unit_fair m.most m.left (words_of zs) rg d s.good l x fr rg' (sym e)) s.fuel
 
-    pub over_onward : (e : Ending) → Came (Ends e) → Onward bytes m frames rg (over_with (outcome_of e (m.fuel - l))) frames' rg'
+    pub over_onward : (e : Ending) → Came (Err e) → Onward bytes m frames rg (Err (record { what = e; used = m.fuel - l })) frames' rg'
     unfolding comes_to
     over_onward e c = record {
-      same = sym (spent (Ends e) (words_of frames') (ended_so e c both) ∙ ap ended (turn_over p unit m.most m.fuel l e (words_of frames') rg'));
-      fit = λ q. absurd (false_true q);
-      less = λ q. absurd (false_true q);
+      same = sym (spent (Err e) (words_of frames') (ended_so e c both) ∙ turn_over p unit m.most m.fuel l e (words_of frames') rg');
+      fit = tt;
+      less = tt;
     }
 
-    pub on_onward : (j : ℕ) → Came (Go j) → Onward bytes m frames rg (on_with m (d - k + j) l (record_in words (j - 1))) frames' rg'
+    pub on_onward : (j : ℕ) → Came (Ok j) → Onward bytes m frames rg (Ok (on_with m (d - k + j) l (record_in words (j - 1)))) frames' rg'
     unfolding comes_to
     on_onward j c =
         let g : Gone j = gone_so j c both in
         record {
-          same = sym (spent (Go (d - k + j)) _ g.turn_is ∙ ap ended (turn_on p unit m.most m.fuel l (d - k + j) _ rg'));
-          fit = λ _. record {
-            runs = refl;
+          same = sym (spent (Ok (d - k + j)) _ g.turn_is ∙ turn_on p unit m.most m.fuel l (d - k + j) _ rg');
+          fit = record {
             well_formed = s.well_formed;
             good = turn_good p unit unit_fair m.most m.left (words_of zs) rg d s.good l (d - k + j) _ rg' (sym g.turn_is);
             records = s.records ∙ sym (length-set frames (d - 1) stored);
-            fuel = omega (arith, turn_fuel p unit unit_fair m.most m.left (words_of zs) rg d s.good l (Go (d - k + j)) _ rg' (sym g.turn_is), s.fuel);
-            below = refl;
+            fuel = omega (arith, turn_fuel p unit unit_fair m.most m.left (words_of zs) rg d s.good l (Ok (d - k + j)) _ rg' (sym g.turn_is), s.fuel);
           };
-          less = λ _. turn_less p unit unit_fair m.most m.left (words_of zs) rg d s.good l (d - k + j) _ rg' (sym g.turn_is);
+          less = turn_less p unit unit_fair m.most m.left (words_of zs) rg d s.good l (d - k + j) _ rg' (sym g.turn_is);
         }
 
     -- the numbers of the machine that goes on
-    pub on_size : (j : ℕ) → Came (Go j) → (1 ≤ j) × (j ≤ 3) × (d - k + j ≤ m.records)
+    pub on_size : (j : ℕ) → Came (Ok j) → (1 ≤ j) × (j ≤ 3) × (d - k + j ≤ m.records)
     on_size j c = let g : Gone j = gone_so j c both in (g.some_left, g.in_window, rw s.records g.within)
 
-    pub over_fuel : (e : Ending) → Came (Ends e) → l ≤ m.fuel
-    over_fuel e c = omega (arith, turn_fuel p unit unit_fair m.most m.left (words_of zs) rg d s.good l (Ends e) (words_of frames') rg' (sym (ended_so e c both)), s.fuel)
+    pub over_fuel : (e : Ending) → Came (Err e) → l ≤ m.fuel
+    over_fuel e c = omega (arith, turn_fuel p unit unit_fair m.most m.left (words_of zs) rg d s.good l (Err e) (words_of frames') rg' (sym (ended_so e c both)), s.fuel)

@@ -5,6 +5,7 @@ use mathlib.Core.List.{List}
 use lib.ListN.{length}
 use native.Mathlib.Omega.{arith}
 use borrow.Author.Tests.{le-leb, lt-leb, lt-ltb, le-ltb}
+use Rattle.std.specs.Prelude.{Result, Ok, Err}
 use Rattle.runtime.specs.declared.CoreTrap.{CoreTrap}
 use Rattle.instr.specs.declared.Instr.{Instr}
 use Rattle.image.specs.Program.{Program}
@@ -28,7 +29,7 @@ module _ (p : Program) (price : Price) (f place : ℕ) (w : List ℕ) where
   burst_dry zero left h c = rw (lt-leb _ _ h)
   burst_dry (suc n) left h c = rw (lt-leb _ _ h, lt-ltb _ _ c)
 
-  pub burst_step : (n left : ℕ) (a : Went) (v : List ℕ) → place < length_of p f → price (code_of p f place).op ≤ left → local a v ≡ straight (code_of p f place) w
+  pub burst_step : (n left : ℕ) (a : Result Went CoreTrap) (v : List ℕ) → place < length_of p f → price (code_of p f place).op ≤ left → local a v ≡ straight (code_of p f place) w
       → burst p price f (suc n) left place w ≡ further a v place (left - price (code_of p f place).op) (λ q v. burst p price f n (left - price (code_of p f place).op) q v)
   unfolding burst
   burst_step n left a v h c e = rw (lt-leb _ _ h, le-ltb _ _ c, ← e)
@@ -61,18 +62,18 @@ module _ (p : Program) (price : Price) (fair : Fair price) (f fuel from : ℕ) (
     rest : m ≡ left - price (code_of p f place).op
     rest = h.rest ∙ ap (λ (j : Instr). left - price j.op) h.instr
 
-    one : (a : Went) (v : List ℕ) → local a v ≡ straight i w
+    one : (a : Result Went CoreTrap) (v : List ℕ) → local a v ≡ straight i w
         → burst p price f fuel fuel from w₀ ≡ further a v place m (λ q v. burst p price f (b.bound - 1) m q v)
     one a v l =
         b.same ∙ ap (λ (k : ℕ). burst p price f k left place w) more
         ∙ burst_step p price f place w (b.bound - 1) left a v h.inside (rw h.instr at h.fits) (rw h.instr at l)
         ∙ ap (λ (k : ℕ). further a v place k (λ q v. burst p price f (b.bound - 1) k q v)) (sym rest)
 
-    pub stop_fails : (t : CoreTrap) (v : List ℕ) → local (went.Fails t) v ≡ straight i w → halted (Fails t) place m v ≡ burst p price f fuel fuel from w₀
-    stop_fails t v l = sym (one (went.Fails t) v l)
+    pub stop_fails : (t : CoreTrap) (v : List ℕ) → local (Err t) v ≡ straight i w → halted (Fails t) place m v ≡ burst p price f fuel fuel from w₀
+    stop_fails t v l = sym (one (Err t) v l)
 
-    pub stop_leave : (v : List ℕ) → local went.Leaves v ≡ straight i w → halted Leaves place m v ≡ burst p price f fuel fuel from w₀
-    stop_leave v l = sym (one went.Leaves v l)
+    pub stop_leave : (v : List ℕ) → local (Ok went.Leaves) v ≡ straight i w → halted Leaves place m v ≡ burst p price f fuel fuel from w₀
+    stop_leave v l = sym (one (Ok went.Leaves) v l)
 
     turned : (q : ℕ) (v : List ℕ) → burst p price f fuel fuel from w₀ ≡ burst p price f (b.bound - 1) m q v → length v ≡ length w → Bursting p price f fuel from w₀ v q m
     turned q v e k = record {
@@ -82,11 +83,11 @@ module _ (p : Program) (price : Price) (fair : Fair price) (f fuel from : ℕ) (
       long = k ∙ b.long;
     }
 
-    pub turn_on : (v : List ℕ) → local went.On v ≡ straight i w → length v ≡ length w → Bursting p price f fuel from w₀ v (place + 1) m
-    turn_on v l k = turned (place + 1) v (one went.On v l) k
+    pub turn_on : (v : List ℕ) → local (Ok went.On) v ≡ straight i w → length v ≡ length w → Bursting p price f fuel from w₀ v (place + 1) m
+    turn_on v l k = turned (place + 1) v (one (Ok went.On) v l) k
 
-    pub turn_to : (q : ℕ) (v : List ℕ) → local (went.To q) v ≡ straight i w → length v ≡ length w → Bursting p price f fuel from w₀ v q m
-    turn_to q v l k = turned q v (one (went.To q) v l) k
+    pub turn_to : (q : ℕ) (v : List ℕ) → local (Ok (went.To q)) v ≡ straight i w → length v ≡ length w → Bursting p price f fuel from w₀ v q m
+    turn_to q v l k = turned q v (one (Ok (went.To q)) v l) k
 
     -- the fuel falls
     pub fuel_less : m < left

@@ -2,41 +2,33 @@
 use Prim.Native.Nat.{ℕ, ◌*◌, ◌≤◌, ◌<◌}
 use mathlib.Core.Path.{◌≡◌, refl, sym, ap, ◌∙◌, subst}
 use mathlib.Core.Bool.{Bool, true, false}
-use mathlib.Core.List.{List, [], ◌++◌}
+use mathlib.Core.List.{List, ◌++◌}
 use native.Mathlib.Omega.{arith}
 use native.Mathlib.Nat.{sub_self, zero-add}
 use lib.Dec.{eqb}
-use lib.ListN.{length, get_or, set, take, drop, replicate, length-append, length-drop, get_or-append}
+use lib.ListN.{length, get_or, set, take, replicate, get_or-append}
 use lib.Seq.{sets, length-sets, length-take-le}
 use borrow.Author.Tests.{eqb-true, eqb-false}
+use Rattle.std.specs.Prelude.{Result, Ok, Err}
 use Rattle.basis.specs.Choice.{pick}
 use Rattle.image.specs.Records.{form1}
 use Rattle.image.specs.WellFormed.{WellFormed}
-use Rattle.image.specs.declared.ImageFault.{ImageFault}
-use Rattle.image.specs.Image.{fault_numbers, image_fault}
 use Rattle.image.specs.Program.{Program, decode}
 use Rattle.image.specs.Parts.{regs_of}
 use Rattle.lent.specs.declared.FrameRecord.{FrameRecord}
 use Rattle.lent.specs.Records.{record_words, words_of}
 use Rattle.lent.proofs.Words.{length-words, sets_record}
 use Rattle.exec.specs.declared.Ending.{Ending}
-use Rattle.exec.specs.declared.Step.{Step}
-use Rattle.exec.specs.declared.Step.TheVariants.{Go, Ends}
-use Rattle.exec.specs.declared.config.CoreConfig.{CoreConfig}
-use Rattle.exec.specs.declared.CoreOutcome.{CoreOutcome}
-use Rattle.exec.specs.declared.CoreOutcome.TheVariants.{Image}
 use Rattle.exec.specs.declared.in_frames.Machine.{Machine}
 use Rattle.exec.specs.Price.{unit}
 use Rattle.exec.specs.Lent.{record_in, unit_word, state}
 use Rattle.exec.specs.Step.{Stepped, stepped}
 use Rattle.exec.specs.Run.{later, run}
-use Rattle.exec.specs.Execute.{made, ended, outcome_of}
-use Rattle.exec.specs.InFrames.{over_with, comes_to, Enters, Begins}
+use Rattle.exec.specs.Execute.{made}
+use Rattle.exec.specs.InFrames.{comes_to, Enters}
 use Rattle.exec.proofs.Lists.{get_or-sets_in}
 use Rattle.exec.proofs.Runs.{later_zero}
 use Rattle.exec.proofs.Entry.{made_none, made_frames, made_registers, made_frame, made_cases, made_alone, enter_refused, enter_run}
-use Rattle.exec.proofs.Whole.{ends_fault, fine_run}
-use Rattle.exec.proofs.Advanced.{false_true}
 
 -- the words lent: a record if there is one
 abbrev room_for : ℕ → ℕ
@@ -47,10 +39,6 @@ blank n = take (4 * n) (replicate 4 0)
 
 pub blank_length : (n : ℕ) → n ≤ 1 → length (blank n) ≡ 4 * n
 blank_length n h = length-take-le (4 * n) (replicate 4 0) (omega arith)
-
--- as many words come back
-pub back_length : (n : ℕ) (w : List ℕ) → n ≤ 1 → length w ≡ length (blank n) → length (w ++ drop (4 * n) (replicate 4 0)) ≡ 4
-back_length n w h e = simp (length-append, e, blank_length n h, length-drop) (omega arith)
 
 -- there is room for a record in both, or in neither
 blank_room : (records n : ℕ) → n ≡ room_for records → (4 * n < 4 → 4 * records < 4) × (4 ≤ 4 * n → 4 ≤ 4 * records)
@@ -72,9 +60,9 @@ read_back w rest r h = λ i. record { function = word 0 (omega arith) i; place =
 
 module _ (p : Program) (records n : ℕ) (rg : List ℕ) (e : n ≡ room_for records) (small : n ≤ 1) (frames : List FrameRecord) (many : length frames ≡ records) (rest : List ℕ) where
   -- what is so of the lent records after the same step
-  abbrev Follows : Step → List ℕ → List ℕ → Type 0
-  Follows (Go j) w rg' = stepped (Go 1) (words_of (set frames 0 (record_in (w ++ rest) 0))) rg' ≡ made p (words_of frames) rg
-  Follows (Ends x) w rg' = stepped (Ends x) (words_of frames) rg' ≡ made p (words_of frames) rg
+  abbrev Follows : Result ℕ Ending → List ℕ → List ℕ → Type 0
+  Follows (Ok j) w rg' = stepped (Ok 1) (words_of (set frames 0 (record_in (w ++ rest) 0))) rg' ≡ made p (words_of frames) rg
+  Follows (Err x) w rg' = stepped (Err x) (words_of frames) rg' ≡ made p (words_of frames) rg
 
   -- the entry frame's record
   abbrev first : FrameRecord
@@ -86,7 +74,7 @@ module _ (p : Program) (records n : ℕ) (rg : List ℕ) (e : n ≡ room_for rec
   roomy : 4 ≤ length (blank n) → 4 ≤ length (words_of frames)
   roomy h = rw words_long ((blank_room records n e).1 (rw (blank_length n small) at h))
 
-  pub made_follows : (x : Step) (w rg' : List ℕ) → stepped x w rg' ≡ made p (blank n) rg → Follows x w rg'
+  pub made_follows : (x : Result ℕ Ending) (w rg' : List ℕ) → stepped x w rg' ≡ made p (blank n) rg → Follows x w rg'
   made_follows x w rg' q =
       subst (λ (o : Stepped). Follows o.answer o.frames o.regs) (sym q)
       (made_cases p (blank n) rg (λ o. Follows o.answer o.frames o.regs) (record {
@@ -94,8 +82,8 @@ module _ (p : Program) (records n : ℕ) (rg : List ℕ) (e : n ≡ room_for rec
         frames = λ known h. made_frames p (words_of frames) rg p.entry refl known (rw words_long ((blank_room records n e).0 (rw (blank_length n small) at h)));
         registers = λ known room h. made_registers p (words_of frames) rg p.entry refl known (roomy room) _ refl h;
         goes_on = λ known room fits.
-            ap (λ (r : FrameRecord). stepped (Go 1) (words_of (set frames 0 r)) (sets rg 0 (replicate (regs_of p p.entry) unit_word))) (read_back (blank n) rest first room)
-            ∙ ap (λ (l : List ℕ). stepped (Go 1) l (sets rg 0 (replicate (regs_of p p.entry) unit_word))) (sym (sets_record frames 0 first))
+            ap (λ (r : FrameRecord). stepped (Ok 1) (words_of (set frames 0 r)) (sets rg 0 (replicate (regs_of p p.entry) unit_word))) (read_back (blank n) rest first room)
+            ∙ ap (λ (l : List ℕ). stepped (Ok 1) l (sets rg 0 (replicate (regs_of p p.entry) unit_word))) (sym (sets_record frames 0 first))
             ∙ made_frame p (words_of frames) rg p.entry refl known (roomy room) _ refl fits;
       }))
 
@@ -104,51 +92,26 @@ module _ (bytes : List ℕ) (most fuel records n : ℕ) (rg w rg' rest : List �
   abbrev p : Program
   p = decode form1 bytes
 
-  pub refused_enters : (x : Ending) → stepped (Ends x) w rg' ≡ made p (blank n) rg → Enters bytes most fuel records rg (over_with (outcome_of x 0)) rg'
+  pub refused_enters : (x : Ending) → stepped (Err x) w rg' ≡ made p (blank n) rg → Enters bytes most fuel records rg (Err (record { what = x; used = 0 })) rg'
   unfolding comes_to
   refused_enters x q frames many =
-      (λ h. absurd (false_true h), ap ended (enter_refused p unit most fuel (words_of frames) rg (words_of frames) rg' x (made_follows p records n rg e small frames many rest (Ends x) w rg' q)))
+      (tt, enter_refused p unit most fuel (words_of frames) rg (words_of frames) rg' x (made_follows p records n rg e small frames many rest (Err x) w rg' q))
 
-  abbrev begun : CoreOutcome → FrameRecord → Machine
-  begun o top =
-      record {
-        running = true;
-        outcome = o;
-        depth = 1;
-        below = 0;
-        records = records;
-        most = most;
-        fuel = fuel;
-        left = fuel;
-        top = top;
-      }
+  abbrev begun : FrameRecord → Machine
+  begun top = record { depth = 1; records = records; most = most; fuel = fuel; left = fuel; top = top }
 
-  pub made_enters : WellFormed form1 bytes → (j : ℕ) (o : CoreOutcome) → stepped (Go j) w rg' ≡ made p (blank n) rg
-      → Enters bytes most fuel records rg (begun o (record_in (w ++ rest) 0)) rg'
+  pub made_enters : WellFormed form1 bytes → (j : ℕ) → stepped (Ok j) w rg' ≡ made p (blank n) rg
+      → Enters bytes most fuel records rg (Ok (begun (record_in (w ++ rest) 0))) rg'
   unfolding comes_to
-  made_enters wf j o q frames many =
+  made_enters wf j q frames many =
       let top : FrameRecord = record_in (w ++ rest) 0 in
-      let f : stepped (Go 1) (words_of (set frames 0 top)) rg' ≡ made p (words_of frames) rg = made_follows p records n rg e small frames many rest (Go j) w rg' q in (
-        λ _. record {
-          runs = refl;
+      let f : stepped (Ok 1) (words_of (set frames 0 top)) rg' ≡ made p (words_of frames) rg = made_follows p records n rg e small frames many rest (Ok j) w rg' q in (
+        record {
           well_formed = wf;
           good = (made_alone p (words_of frames) rg 1 (words_of (set frames 0 top)) rg' f).0;
           records = sym many;
           fuel = omega arith;
-          below = refl;
         },
-        ap (λ (k : ℕ). ended (later k (run p unit most fuel (state (words_of (set frames 0 top)) rg' 1)))) (sub_self fuel)
-            ∙ ap ended (later_zero (run p unit most fuel (state (words_of (set frames 0 top)) rg' 1)) ∙ enter_run p unit most fuel (words_of frames) rg (words_of (set frames 0 top)) rg' 1 f),
+        ap (λ (k : ℕ). later k (run p unit most fuel (state (words_of (set frames 0 top)) rg' 1))) (sub_self fuel)
+            ∙ later_zero (run p unit most fuel (state (words_of (set frames 0 top)) rg' 1)) ∙ enter_run p unit most fuel (words_of frames) rg (words_of (set frames 0 top)) rg' 1 f,
       )
-
--- ---- or does not, for want of an image
-pub fault_begins : (bytes : List ℕ) (config : CoreConfig) (records : ℕ) (rg : List ℕ) (f : ImageFault) → fault_numbers f ≡ image_fault form1 bytes
-    → Begins bytes config records rg (over_with (Image f)) rg
-unfolding comes_to
-fault_begins bytes config records rg f e frames many =
-    (λ h. absurd (false_true h), ends_fault bytes config.max_call_depth config.fuel (words_of frames) rg f e)
-
-pub image_begins : (bytes : List ℕ) (config : CoreConfig) (records : ℕ) (rg rg' : List ℕ) (m : Machine) → [] ≡ image_fault form1 bytes
-    → Enters bytes config.max_call_depth config.fuel records rg m rg' → Begins bytes config records rg m rg'
-image_begins bytes config records rg rg' m e h frames many =
-    ((h frames many).0, (h frames many).1 ∙ fine_run bytes config.max_call_depth config.fuel (words_of frames) rg e)

@@ -10,9 +10,8 @@ use Rattle.image.specs.Records.{header_of, function_no, form1, form1_instr, inst
 use Rattle.image.specs.WellFormed.{WellFormed}
 use Rattle.image.specs.Program.{Program, decode}
 use Rattle.image.specs.Parts.{functions_of, regs_of, length_of, code_of, Call}
-use Rattle.image.specs.declared.record.Header.{Header}
 use Rattle.image.specs.declared.record.FunctionRecord.{FunctionRecord}
-use Rattle.image.proofs.Parts.{entry_is, functions_length, inside}
+use Rattle.image.proofs.Parts.{functions_length, inside}
 use Rattle.image.proofs.Numbers.{regs_in, length-in, fetched}
 use Rattle.exec.specs.declared.frame.Top.{Top}
 use Rattle.exec.specs.declared.burst.Why.{Why}
@@ -21,7 +20,6 @@ use Rattle.exec.specs.Lent.{part, state, top_of}
 use Rattle.exec.specs.Step.{Stepped, called, returned, left, acted, step}
 use Rattle.exec.specs.Burst.{halted, burst, paused, landing, stretch, Ready, AtLeave}
 use Rattle.exec.proofs.Parts.{part_lent, put_lent}
-use Rattle.exec.proofs.Stretches.{placed, top_at_lem}
 
 -- ---- the program of a well-formed image
 module _ (s : List ℕ) where
@@ -31,17 +29,6 @@ module _ (s : List ℕ) where
 
   pub unknown : (k : ℕ) → k < (header_of s).functions → k < functions_of (decode form1 s)
   unknown k h = rw (functions_length form1 s) h
-
-  -- the header as it is read
-  module _ (h : Header) (q : h ≡ header_of s) where
-    pub header_entry : h.entry ≡ (decode form1 s).entry
-    header_entry = ap (λ (x : Header). x.entry) q ∙ sym (entry_is form1 s)
-
-    pub header_none : (k : ℕ) → h.functions ≤ k → functions_of (decode form1 s) ≤ k
-    header_none k l = rw (functions_length form1 s) (rw q at l)
-
-    pub header_some : (k : ℕ) → k < h.functions → k < (header_of s).functions
-    header_some k l = rw q at l
 
   module _ (W : WellFormed form1 s) (k : ℕ) (h : k < (header_of s).functions) where
     module _ (f : FunctionRecord) (e : f ≡ function_no s k) where
@@ -83,10 +70,6 @@ module _ (p : Program) (fr rg : List ℕ) (d : ℕ) (t : Top) (g : Ready p fr (l
       ∙ ap (landing (state fr rg d) t) b
       ∙ ap (λ (u : Top). landing (state fr rg d) u (burst p price u.function fuel fuel u.place (part rg u.first u.limit))) e
 
-  -- the frame then
-  pub top_moved : (n : ℕ) → record { function = t.function; place = n; first = t.first; limit = t.limit } ≡ top_of p (set fr (4 * (d - 1) + 1) n) d
-  top_moved n = ap (λ (u : Top). placed u n) e ∙ sym (top_at_lem p 0 fr rg d g n (part rg 0 0))
-
   -- at a Call or Ret
   module _ (a : AtLeave p fr rg d) where
     pub at_inside : t.place < length_of p t.function
@@ -107,3 +90,19 @@ module _ (p : Program) (fr rg : List ℕ) (d : ℕ) (t : Top) (g : Ready p fr (l
       pub leave_ret : (x : Stepped) → x ≡ returned p (state fr rg d) t i → (i.op ≡ Call → ⊥) → x ≡ step p most (state fr rg d)
       unfolding left
       leave_ret x h n = h ∙ (sym (rw (ne_eqb i.op Call n)) ∙ left_step)
+
+-- ---- the instruction at which the running frame of a well-formed image is left, as it is read
+module _ (s : List ℕ) (W : WellFormed form1 s) (fr rg : List ℕ) (d : ℕ) (a : AtLeave (decode form1 s) fr rg d) (g : Ready (decode form1 s) fr (length rg) d)
+    (t : Top) (e : t ≡ top_of (decode form1 s) fr d) where
+  pub left_function : t.function < (header_of s).functions
+  left_function = known s t.function (top_function (decode form1 s) fr rg d t g e)
+
+  module _ (f : FunctionRecord) (q : f ≡ function_no s t.function) (code : ℕ) (c : code ≡ instr_place form1 (header_of s).functions f.first) where
+    left_inside : t.place < f.count
+    left_inside = rw (count_is s W t.function left_function f q) (at_inside (decode form1 s) fr rg d t g e a)
+
+    pub left_room : code + 12 * t.place + 12 ≤ length s
+    left_room = code_room s W t.function left_function f q code t.place c left_inside
+
+    pub left_instr : (i : Instr) → i ≡ form1_instr s (code + 12 * t.place) → i ≡ code_of (decode form1 s) t.function t.place
+    left_instr i h = instr_is s W t.function left_function f q code t.place i c left_inside h

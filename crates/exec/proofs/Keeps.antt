@@ -10,17 +10,18 @@ use lib.Dec.{ltb, leb, eqb}
 use lib.ListN.{length, get_or, set, length-set}
 use lib.Seq.{get_or-set_other, get_or-set_same, length-sets}
 use borrow.Author.Tests.{ltb-true, ltb-false, leb-false}
+use Rattle.std.specs.Prelude.{Result, Ok, Err}
+use Rattle.runtime.specs.declared.CoreTrap.{CoreTrap}
 use Rattle.basis.specs.Choice.{pick}
 use Rattle.instr.specs.declared.Instr.{Instr}
 use Rattle.image.specs.Program.{Program}
 use Rattle.image.specs.Parts.{functions_of, regs_of, Call}
 use Rattle.straight.specs.declared.Went.{Went}
-use Rattle.straight.specs.declared.Went.TheVariants.{On, To, Fails, Leaves}
+use Rattle.straight.specs.declared.Went.TheVariants.{On, To, Leaves}
 use Rattle.straight.specs.Straight.{straight}
 use Rattle.straight.proofs.Stays.{Stays, straight_stays}
+use Rattle.exec.specs.declared.Ending.{Ending}
 use Rattle.exec.specs.declared.frame.Top.{Top}
-use Rattle.exec.specs.declared.Step.{Step}
-use Rattle.exec.specs.declared.Step.TheVariants.{Go, Ends}
 use Rattle.exec.specs.Lent.{dst_word, part, State, state, top_of, top_at}
 use Rattle.exec.specs.Step.{Stepped, stepped, moved, landed, too_deep, window_fits, pushed_frames, pushed_regs, called, handed, returned, left, acted, step}
 use Rattle.exec.specs.Burst.{Frame, Ready, Good}
@@ -36,9 +37,9 @@ good_ready p fr n d g = record {
 }
 
 -- after a step that goes on, all frames stand
-abbrev pub Kept : Program → Step → List ℕ → List ℕ → Type 0
-Kept p (Go d) fr rg = Good p fr (length rg) d
-Kept p (Ends e) fr rg = Unit
+abbrev pub Kept : Program → Result ℕ Ending → List ℕ → List ℕ → Type 0
+Kept p (Ok d) fr rg = Good p fr (length rg) d
+Kept p (Err e) fr rg = Unit
 
 abbrev pub Keeps : Program → Stepped → Type 0
 Keeps p o = Kept p o.answer o.frames o.regs
@@ -80,14 +81,14 @@ moved_ready p s n w g e =
     })
 
 -- every instruction inside a frame
-landed_keeps : (p : Program) (s : State) (l : Stepped) (a : Went) (w : List ℕ) → GoodIn p s → Keeps p l → Stays (part s.regs (top_at p s).first (top_at p s).limit) a w
+landed_keeps : (p : Program) (s : State) (l : Stepped) (a : Result Went CoreTrap) (w : List ℕ) → GoodIn p s → Keeps p l → Stays (part s.regs (top_at p s).first (top_at p s).limit) a w
     → Keeps p (landed s (top_at p s) l a w)
-landed_keeps p s l On w g k e =
+landed_keeps p s l (Ok On) w g k e =
     moved_good p s ((top_at p s).place + 1) w g (e ∙ length_part s.regs (top_at p s).first (top_at p s).limit (g.each (s.depth - 1) (omega (arith, g.some))).registers)
-landed_keeps p s l (To n) w g k e =
+landed_keeps p s l (Ok (To n)) w g k e =
     moved_good p s n w g (ap length e ∙ length_part s.regs (top_at p s).first (top_at p s).limit (g.each (s.depth - 1) (omega (arith, g.some))).registers)
-landed_keeps p s l (Fails t) w g k e = tt
-landed_keeps p s l Leaves w g k e = k
+landed_keeps p s l (Err t) w g k e = tt
+landed_keeps p s l (Ok Leaves) w g k e = k
 
 pub handed_keeps : (p : Program) (s : State) (v : ℕ) → GoodIn p s → 1 < s.depth → Keeps p (handed p s v)
 unfolding handed
@@ -160,7 +161,7 @@ acted_keeps p most s i g =
 
 -- a step that goes on leaves all frames standing
 pub step_keeps : (p : Program) (most : ℕ) (fr rg : List ℕ) (d : ℕ) (fr' rg' : List ℕ) (d' : ℕ) → Good p fr (length rg) d
-    → stepped (Go d') fr' rg' ≡ step p most (state fr rg d) → Good p fr' (length rg') d'
+    → stepped (Ok d') fr' rg' ≡ step p most (state fr rg d) → Good p fr' (length rg') d'
 unfolding step
 step_keeps p most fr rg d fr' rg' d' g e =
     subst (λ (o : Stepped). Keeps p o) (sym e) (acted_keeps p most (state fr rg d) _ g)

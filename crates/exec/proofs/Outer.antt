@@ -5,6 +5,7 @@ use mathlib.Core.List.{List}
 use native.Mathlib.Omega.{arith}
 use native.Mathlib.Nat.{add-zero, zero-add}
 use lib.ListN.{length, set}
+use Rattle.std.specs.Prelude.{Result, Ok, Err}
 use Rattle.image.specs.Program.{Program}
 use Rattle.image.specs.Parts.{length_of, code_of}
 use Rattle.straight.specs.declared.Went.TheVariants as went
@@ -13,8 +14,6 @@ use Rattle.exec.specs.declared.frame.Top.{Top}
 use Rattle.exec.specs.declared.burst.Why.{Why}
 use Rattle.exec.specs.declared.burst.Why.TheVariants.{Past, Dry, Fails, Leaves}
 use Rattle.exec.specs.declared.Ending.{Ending}
-use Rattle.exec.specs.declared.Step.{Step}
-use Rattle.exec.specs.declared.Step.TheVariants.{Go, Ends}
 use Rattle.exec.specs.Price.{Price, Fair}
 use Rattle.exec.specs.Lent.{part, put, state, top_of}
 use Rattle.exec.specs.Step.{Stepped, stepped, step}
@@ -84,8 +83,8 @@ module _ (p : Program) (price : Price) (fair : Fair price) (n : ℕ) (fr rg : Li
         record {
           inside = subst (λ (t : Top). t.place < length_of p t.function) (sym u) stopped.0;
           leaves =
-              subst (λ (t : Top). (straight (code_of p t.function t.place) (part rg' t.first t.limit)).went ≡ went.Leaves) (sym u)
-              (subst (λ (w : List ℕ). (straight (code_of p top.function halt.place) w).went ≡ went.Leaves) (sym window) stopped.1);
+              subst (λ (t : Top). (straight (code_of p t.function t.place) (part rg' t.first t.limit)).went ≡ Ok went.Leaves) (sym u)
+              (subst (λ (w : List ℕ). (straight (code_of p top.function halt.place) w).went ≡ Ok went.Leaves) (sym window) stopped.1);
         }
 
 -- ---- a turn
@@ -101,7 +100,7 @@ module _ (p : Program) (price : Price) (most n : ℕ) (fr rg : List ℕ) (d : �
   unfolding turn
   turn_by y m fr' rg' e = ap (λ (x : Paused). acting p most d x.why x.left x.frames x.regs) e
 
-  pub turn_leaves : (m : ℕ) (fr' rg' : List ℕ) → paused Leaves m fr' rg' ≡ stretch p price n (state fr rg d) → (x : Step) (fr'' rg'' : List ℕ)
+  pub turn_leaves : (m : ℕ) (fr' rg' : List ℕ) → paused Leaves m fr' rg' ≡ stretch p price n (state fr rg d) → (x : Result ℕ Ending) (fr'' rg'' : List ℕ)
       → stepped x fr'' rg'' ≡ step p most (state fr' rg' d) → turned m x fr'' rg'' ≡ turn p price most n (state fr rg d)
   turn_leaves m fr' rg' e x fr'' rg'' q = ap (λ (o : Stepped). turned m o.answer o.frames o.regs) q ∙ turn_by Leaves m fr' rg' e
 
@@ -117,11 +116,11 @@ resumed p price most fuel d (Fails t) m fr rg = rw add-zero
 resumed p price most fuel d Leaves m fr rg = refl
 
 -- two answers told apart
-abbrev Goes : Step → Type 0
-Goes (Go n) = Unit
-Goes (Ends x) = ⊥
+abbrev Goes : Result ℕ Ending → Type 0
+Goes (Ok n) = Unit
+Goes (Err x) = ⊥
 
-pub going : (d : ℕ) (e : Ending) → Go d ≡ Ends e → ⊥
+pub going : (d : ℕ) (e : Ending) → Ok d ≡ Err e → ⊥
 going d e q = subst Goes q tt
 
 -- ---- a turn where all frames stand
@@ -141,7 +140,7 @@ module _ (p : Program) (price : Price) (fair : Fair price) (most n : ℕ) (fr rg
   unfolding turn
   run_turn = run_stretch p price fair most fr rg d ready n ∙ resumed p price most n d stop.why stop.left stop.frames stop.regs
 
-  module _ (m : ℕ) (x : Step) (fr' rg' : List ℕ) (q : turned m x fr' rg' ≡ turn p price most n (state fr rg d)) where
+  module _ (m : ℕ) (x : Result ℕ Ending) (fr' rg' : List ℕ) (q : turned m x fr' rg' ≡ turn p price most n (state fr rg d)) where
     left_is_stop : m ≡ stop.left
     unfolding turn
     left_is_stop = ap (λ (t : Turned). t.left) q ∙ acting_left p most d stop.why stop.left stop.frames stop.regs
@@ -150,8 +149,8 @@ module _ (p : Program) (price : Price) (fair : Fair price) (most n : ℕ) (fr rg
     turn_fuel = omega (arith, left_is_stop, stop_fuel)
 
   -- it goes on after a Call or Ret: all frames stand, and it took fuel
-  module _ (m d' : ℕ) (fr' rg' : List ℕ) (q : turned m (Go d') fr' rg' ≡ turn p price most n (state fr rg d)) where
-    gone : (y : Why) (k : ℕ) (fr₁ rg₁ : List ℕ) → paused y k fr₁ rg₁ ≡ stop → turned m (Go d') fr' rg' ≡ acting p most d y k fr₁ rg₁ → Good p fr' (length rg') d' × (k < n)
+  module _ (m d' : ℕ) (fr' rg' : List ℕ) (q : turned m (Ok d') fr' rg' ≡ turn p price most n (state fr rg d)) where
+    gone : (y : Why) (k : ℕ) (fr₁ rg₁ : List ℕ) → paused y k fr₁ rg₁ ≡ stop → turned m (Ok d') fr' rg' ≡ acting p most d y k fr₁ rg₁ → Good p fr' (length rg') d' × (k < n)
     gone Past k fr₁ rg₁ e h = absurd (going _ _ (ap (λ (t : Turned). t.answer) h))
     gone Dry k fr₁ rg₁ e h = absurd (going _ _ (ap (λ (t : Turned). t.answer) h))
     gone (Fails t) k fr₁ rg₁ e h = absurd (going _ _ (ap (λ (t : Turned). t.answer) h))
@@ -168,46 +167,46 @@ module _ (p : Program) (price : Price) (fair : Fair price) (most n : ℕ) (fr rg
     turn_good = at_stop.0
 
     pub turn_less : m < n
-    turn_less = omega (arith, left_is_stop m (Go d') fr' rg' q, at_stop.1)
+    turn_less = omega (arith, left_is_stop m (Ok d') fr' rg' q, at_stop.1)
 
 -- of a run that has used fuel before
-pub after_later : (p : Program) (price : Price) (most fuel n m : ℕ) (x : Step) (fr rg : List ℕ) → m ≤ n → n ≤ fuel
+pub after_later : (p : Program) (price : Price) (most fuel n m : ℕ) (x : Result ℕ Ending) (fr rg : List ℕ) → m ≤ n → n ≤ fuel
     → later (fuel - n) (after_turn p price most n (turned m x fr rg)) ≡ after_turn p price most fuel (turned m x fr rg)
 after_later p price most fuel n m x fr rg a b =
     let e : fuel - n + (n - m) ≡ fuel - m = omega arith in
     later_later (fuel - n) (n - m) _ ∙ ap (λ (k : ℕ). later k (onward 0 x fr rg (λ s. run p price most m s))) e
 
 -- its end, or where it goes on
-pub turn_over : (p : Program) (price : Price) (most fuel m : ℕ) (x : Ending) (fr rg : List ℕ) → after_turn p price most fuel (turned m (Ends x) fr rg) ≡ final x (fuel - m) fr rg
+pub turn_over : (p : Program) (price : Price) (most fuel m : ℕ) (x : Ending) (fr rg : List ℕ) → after_turn p price most fuel (turned m (Err x) fr rg) ≡ final x (fuel - m) fr rg
 turn_over p price most fuel m x fr rg = rw add-zero
 
 pub turn_on : (p : Program) (price : Price) (most fuel m d : ℕ) (fr rg : List ℕ)
-    → after_turn p price most fuel (turned m (Go d) fr rg) ≡ later (fuel - m) (run p price most m (state fr rg d))
+    → after_turn p price most fuel (turned m (Ok d) fr rg) ≡ later (fuel - m) (run p price most m (state fr rg d))
 turn_on p price most fuel m d fr rg = rw zero-add
 
 -- ---- one turn of the loop
 module _ (p : Program) (price : Price) (fair : Fair price) (most fuel : ℕ) (fr₀ rg₀ fr rg : List ℕ) (d left : ℕ) (r : Running p price most fuel fr₀ rg₀ fr rg d left)
     (m : ℕ) (fr' rg' : List ℕ) where
-  abbrev Came : Step → Type 0
+  abbrev Came : Result ℕ Ending → Type 0
   Came x = turned m x fr' rg' ≡ turn p price most left (state fr rg d)
 
-  whole : (x : Step) → Came x → run p price most fuel (state fr₀ rg₀ 1) ≡ after_turn p price most fuel (turned m x fr' rg')
+  whole : (x : Result ℕ Ending) → Came x → run p price most fuel (state fr₀ rg₀ 1) ≡ after_turn p price most fuel (turned m x fr' rg')
   whole x q =
       r.runs
       ∙ ap (later (fuel - left)) (run_turn p price fair most left fr rg d r.good ∙ ap (after_turn p price most left) (sym q))
       ∙ after_later p price most fuel left m x fr' rg' (turn_fuel p price fair most left fr rg d r.good m x fr' rg' q) r.fuel_left
 
-  pub turn_within : (x : Step) → Came x → m ≤ fuel
+  pub turn_within : (x : Result ℕ Ending) → Came x → m ≤ fuel
   turn_within x q = omega (arith, turn_fuel p price fair most left fr rg d r.good m x fr' rg' q, r.fuel_left)
 
-  pub turn_ends : (x : Ending) → Came (Ends x) → final x (fuel - m) fr' rg' ≡ run p price most fuel (state fr₀ rg₀ 1)
-  turn_ends x q = sym (whole (Ends x) q ∙ turn_over p price most fuel m x fr' rg')
+  pub turn_ends : (x : Ending) → Came (Err x) → final x (fuel - m) fr' rg' ≡ run p price most fuel (state fr₀ rg₀ 1)
+  turn_ends x q = sym (whole (Err x) q ∙ turn_over p price most fuel m x fr' rg')
 
-  pub turn_again : (d' : ℕ) → Came (Go d') → length fr' ≡ length fr → length rg' ≡ length rg → Running p price most fuel fr₀ rg₀ fr' rg' d' m
+  pub turn_again : (d' : ℕ) → Came (Ok d') → length fr' ≡ length fr → length rg' ≡ length rg → Running p price most fuel fr₀ rg₀ fr' rg' d' m
   turn_again d' q lf lr = record {
     good = turn_good p price fair most left fr rg d r.good m d' fr' rg' q;
-    fuel_left = turn_within (Go d') q;
+    fuel_left = turn_within (Ok d') q;
     frames_length = lf ∙ r.frames_length;
     regs_length = lr ∙ r.regs_length;
-    runs = whole (Go d') q ∙ turn_on p price most fuel m d' fr' rg';
+    runs = whole (Ok d') q ∙ turn_on p price most fuel m d' fr' rg';
   }

@@ -3,8 +3,8 @@ use Prim.Native.Nat.{ℕ, ◌+◌, ◌-◌, ◌≤◌, ◌<◌}
 use mathlib.Core.Path.{◌≡◌, sym, ap, ◌∙◌, subst}
 use mathlib.Core.List.{List, ◌++◌}
 use native.Mathlib.Omega.{arith}
-use lib.ListN.{length, get_or, set, take, drop, length-append, length-drop, take-append-drop, get_or-append}
-use lib.Seq.{length-take-le, take_at, drop_at, get_or-append-add, get_or-take, get_or-drop, take-set-le, drop-set-add, take-set-lt, drop-set-lt}
+use lib.ListN.{length, get_or, take, drop, length-append, length-drop, take-append-drop, get_or-append}
+use lib.Seq.{length-take-le, take_at, drop_at, get_or-append-add, get_or-take, get_or-drop}
 use Rattle.exec.specs.Lent.{part, put}
 
 -- as the code lends it: from lo to lo + k
@@ -41,15 +41,6 @@ module _ (xs : List ℕ) (a k : ℕ) (fits : a + k ≤ length xs) where
   -- read and stored through the part is read and stored in the whole
   pub get_or-part : (r : ℕ) → r < k → get_or (part xs a k) r 0 ≡ get_or xs (a + r) 0
   get_or-part r h = get_or-take k (drop a xs) r 0 h ∙ get_or-drop a xs r 0
-
-  pub put_set : (r v : ℕ) → r < k → put xs a k (set (part xs a k) r v) ≡ set xs (a + r) v
-  put_set r v h =
-      let ys : List ℕ = set xs (a + r) v in
-      let f : take a ys ≡ take a xs = take-set-le a xs (a + r) v (omega arith) in
-      let g : drop a ys ≡ set (drop a xs) r v = drop-set-add a xs r v in
-      let p : take k (set (drop a xs) r v) ≡ set (part xs a k) r v = take-set-lt k (drop a xs) r v h in
-      let q : drop k (set (drop a xs) r v) ≡ drop k (drop a xs) = drop-set-lt k (drop a xs) r v h in
-      sym (sym (put_part ys a k) ∙ rw (f, g, p, q))
 
   -- and a word of the whole is one of the part, or as it was
   pub put_low : (ys : List ℕ) (j : ℕ) → j < a → get_or (put xs a k ys) j 0 ≡ get_or xs j 0

@@ -8,12 +8,12 @@ use lib.Dec.{ltb}
 use native.Mathlib.Nat.{zero-add, add-zero, add_assoc}
 use native.Mathlib.Omega.{arith}
 use borrow.Author.Tests.{le-leb, lt-leb, le-ltb, lt-ltb, leb-true, leb-false, ltb-true, ltb-false}
+use Rattle.std.specs.Prelude.{Result, Ok, Err}
 use Rattle.runtime.specs.declared.CoreTrap.TheVariants.{InvalidPc, FuelExceeded}
 use Rattle.image.specs.Program.{Program}
 use Rattle.image.specs.Parts.{length_of}
+use Rattle.exec.specs.declared.Ending.{Ending}
 use Rattle.exec.specs.declared.Ending.TheVariants.{Trapped}
-use Rattle.exec.specs.declared.Step.{Step}
-use Rattle.exec.specs.declared.Step.TheVariants.{Go, Ends}
 use Rattle.exec.specs.Price.{Price, Fair, unit}
 use Rattle.exec.specs.Lent.{State, state, top_at}
 use Rattle.exec.specs.Step.{stepped, next_instr, step, is_past, Inside}
@@ -31,13 +31,13 @@ pub later_later : (m n : ℕ) (f : Final) → later m (later n f) ≡ later (m +
 later_later m n f = rw add_assoc
 
 -- the charge can be taken before the step
-pub onward_later : (c : ℕ) (x : Step) (fr rg : List ℕ) (k : State → Final) → onward c x fr rg k ≡ later c (onward 0 x fr rg k)
-onward_later c (Go d) fr rg k = rw zero-add
-onward_later c (Ends e) fr rg k = rw add-zero
+pub onward_later : (c : ℕ) (x : Result ℕ Ending) (fr rg : List ℕ) (k : State → Final) → onward c x fr rg k ≡ later c (onward 0 x fr rg k)
+onward_later c (Ok d) fr rg k = rw zero-add
+onward_later c (Err e) fr rg k = rw add-zero
 
-pub onward_same : (c : ℕ) (x : Step) (fr rg : List ℕ) (k l : State → Final) → ((t : State) → k t ≡ l t) → onward c x fr rg k ≡ onward c x fr rg l
-onward_same c (Go d) fr rg k l h = ap (later c) (h (state fr rg d))
-onward_same c (Ends e) fr rg k l h = refl
+pub onward_same : (c : ℕ) (x : Result ℕ Ending) (fr rg : List ℕ) (k l : State → Final) → ((t : State) → k t ≡ l t) → onward c x fr rg k ≡ onward c x fr rg l
+onward_same c (Ok d) fr rg k l h = ap (later c) (h (state fr rg d))
+onward_same c (Err e) fr rg k l h = refl
 
 -- one round, by its tests
 module _ (p : Program) (price : Price) (most : ℕ) where
@@ -51,7 +51,7 @@ module _ (p : Program) (price : Price) (most : ℕ) where
   for_dry zero left s h c = rw (lt-leb _ _ h)
   for_dry (suc n) left s h c = rw (lt-leb _ _ h, lt-ltb _ _ c)
 
-  pub for_step : (n left : ℕ) (s : State) (x : Step) (fr rg : List ℕ) → Inside p s → cost_at p price s ≤ left → stepped x fr rg ≡ step p most s
+  pub for_step : (n left : ℕ) (s : State) (x : Result ℕ Ending) (fr rg : List ℕ) → Inside p s → cost_at p price s ≤ left → stepped x fr rg ≡ step p most s
       → run_for p price most (suc n) left s ≡ onward (cost_at p price s) x fr rg (λ t. run_for p price most n (left - cost_at p price s) t)
   unfolding run_for
   for_step n left s x fr rg h c e = rw (lt-leb _ _ h, le-ltb _ _ c, ← e)
@@ -73,7 +73,7 @@ module _ (p : Program) (price : Price) (most : ℕ) where
       go false e true u ih = ended (suc m) (suc n) left s false e (ltb-true _ _ u)
       go false e false u ih =
           let c : 1 ≤ cost_at p price s = f.some (next_instr p s).op in
-          let x : Step = (step p most s).answer in
+          let x : Result ℕ Ending = (step p most s).answer in
           let fr : List ℕ = (step p most s).frames in
           let rg : List ℕ = (step p most s).regs in
           for_step m left s x fr rg (leb-false _ _ e) (ltb-false _ _ u) refl

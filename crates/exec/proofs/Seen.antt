@@ -8,13 +8,14 @@ use lib.Dec.{ltb}
 use lib.ListN.{length, set, take, replicate, length-set}
 use lib.Seq.{sets, get_or-set_same, get_or-set_other, get_or-take, length-take-le, take_at}
 use borrow.Author.Tests.{ne_eqb, lt-ltb, le-ltb, ltb-true, ltb-false}
+use Rattle.std.specs.Prelude.{Result}
 use Rattle.image.specs.Records.{form1}
 use Rattle.image.specs.Program.{decode}
 use Rattle.lent.specs.declared.FrameRecord.{FrameRecord}
 use Rattle.lent.specs.Records.{record_words, no_record, record_at, words_of}
 use Rattle.lent.proofs.Words.{length-words, sets_record, take_words}
+use Rattle.exec.specs.declared.Ending.{Ending}
 use Rattle.exec.specs.declared.in_frames.Machine.{Machine}
-use Rattle.exec.specs.declared.Step.{Step}
 use Rattle.exec.specs.Price.{unit}
 use Rattle.exec.specs.Lent.{state}
 use Rattle.exec.specs.Burst.{turned, turn, Ready}
@@ -67,7 +68,7 @@ window_words below top k n =
     ∙ take_words (set (set (replicate 3 no_record) 0 below) (k - 1) top) n
 
 -- ---- its records
-module _ (bytes : List ℕ) (m : Machine) (frames : List FrameRecord) (n : ℕ) (below : FrameRecord) (s : Stands bytes m frames n) (found : below ≡ record_at frames m.below) where
+module _ (bytes : List ℕ) (m : Machine) (frames : List FrameRecord) (n : ℕ) (below : FrameRecord) (s : Stands bytes m frames n) (found : below ≡ record_at frames (m.depth - 2)) where
   abbrev d : ℕ
   d = m.depth
 
@@ -104,7 +105,7 @@ module _ (bytes : List ℕ) (m : Machine) (frames : List FrameRecord) (n : ℕ) 
       get_or-take size filled (k - 1 - 1) no_record (omega (arith, two, window_size d m.records some))
       ∙ get_or-set_other (set (replicate 3 no_record) 0 below) (k - 1) (k - 1 - 1) m.top no_record (λ e. omega (arith, two))
       ∙ rw zero_is (get_or-set_same (replicate 3 no_record) 0 below no_record (omega arith))
-      ∙ found ∙ ap (record_at frames) s.below
+      ∙ found
 
   pub seen_view : View (held m frames) (seen m below) d k
   seen_view = record {
@@ -138,7 +139,7 @@ module _ (bytes : List ℕ) (m : Machine) (below : FrameRecord) where
       rw (ek, ew) (view_ready (decode form1 bytes) (held m u.frames) (seen m below) len m.depth (shown m.depth) (seen_view bytes m u.frames len below u.stands u.found)
       (good_ready (decode form1 bytes) (words_of (held m u.frames)) len m.depth u.stands.good))
 
-  pub window_turned : (k n most l : ℕ) (x : Step) (w w' rest rg rg' : List ℕ) → k ≡ shown m.depth → n ≡ window_of m.depth m.records → most ≡ m.most - (m.depth - k) → w ≡ words_of (seen m below)
+  pub window_turned : (k n most l : ℕ) (x : Result ℕ Ending) (w w' rest rg rg' : List ℕ) → k ≡ shown m.depth → n ≡ window_of m.depth m.records → most ≡ m.most - (m.depth - k) → w ≡ words_of (seen m below)
       → length w' ≡ 4 * n → turned l x w' rg' ≡ turn (decode form1 bytes) unit most m.left (state w rg k)
       → turned l x (take (4 * window_of m.depth m.records) (w' ++ rest)) rg'
       ≡ turn (decode form1 bytes) unit (m.most - (m.depth - shown m.depth)) m.left (state (words_of (seen m below)) rg (shown m.depth))

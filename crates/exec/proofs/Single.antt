@@ -7,6 +7,7 @@ use native.Mathlib.Omega.{arith}
 use lib.Dec.{leb, eqb}
 use lib.ListN.{length}
 use borrow.Author.Tests.{leb-true, leb-false, le-leb, lt-leb, eq-eqb, ne_eqb}
+use Rattle.std.specs.Prelude.{Ok, Err, Result}
 use Rattle.basis.specs.Choice.{pick}
 use Rattle.runtime.specs.declared.CoreTrap.{CoreTrap}
 use Rattle.runtime.specs.declared.CoreTrap.TheVariants.{InvalidPc}
@@ -20,7 +21,6 @@ use Rattle.straight.proofs.Stays.{Stays, straight_stays}
 use Rattle.exec.specs.declared.burst.Why.{Why}
 use Rattle.exec.specs.declared.burst.Why.TheVariants.{Past, Dry, Fails, Leaves}
 use Rattle.exec.specs.declared.Ending.TheVariants.{Trapped}
-use Rattle.exec.specs.declared.Step.TheVariants.{Go, Ends}
 use Rattle.exec.specs.Price.{unit}
 use Rattle.exec.specs.Lent.{part, state, top_of}
 use Rattle.exec.specs.Step.{Stepped, stepped, goes, step, round}
@@ -31,9 +31,9 @@ use Rattle.exec.proofs.Stretches.{at, lands, at_start, inside_at, past_at, step_
 
 -- what a stretch that began with one unit and stopped with m says of the step
 abbrev told : Program → ℕ → ℕ → Why → ℕ → List ℕ → List ℕ → Stepped
-told p most d Past m fr rg = pick (eqb m 0) (stepped (Go d) fr rg) (stepped (Ends (Trapped InvalidPc)) fr rg)
-told p most d Dry m fr rg = stepped (Go d) fr rg
-told p most d (Fails t) m fr rg = stepped (Ends (Trapped t)) fr rg
+told p most d Past m fr rg = pick (eqb m 0) (stepped (Ok d) fr rg) (stepped (Err (Trapped InvalidPc)) fr rg)
+told p most d Dry m fr rg = stepped (Ok d) fr rg
+told p most d (Fails t) m fr rg = stepped (Err (Trapped t)) fr rg
 told p most d Leaves m fr rg = step p most (state fr rg d)
 
 module _ (p : Program) (most : ℕ) (fr rg : List ℕ) (d : ℕ) (g : Ready p fr (length rg) d) where
@@ -61,12 +61,12 @@ module _ (p : Program) (most : ℕ) (fr rg : List ℕ) (d : ℕ) (g : Ready p fr
       go true = refl
       go false = refl
 
-  taken : (x : Stepped) (a : Went) (v : List ℕ) → lands p fr rg d place w x a v ≡ step p most (at p fr rg d place w) → Stays w a v
+  taken : (x : Stepped) (a : Result Went CoreTrap) (v : List ℕ) → lands p fr rg d place w x a v ≡ step p most (at p fr rg d place w) → Stays w a v
       → told_of (further a v place 0 (λ q u. burst p unit f 0 0 q u)) ≡ step p most (at p fr rg d place w)
-  taken x went.On v e y = rested (place + 1) v ∙ e
-  taken x (went.To q) v e y = rested q v ∙ e
-  taken x (went.Fails t) v e y = rw y e
-  taken x went.Leaves v e y = rw y
+  taken x (Ok went.On) v e y = rested (place + 1) v ∙ e
+  taken x (Ok (went.To q)) v e y = rested q v ∙ e
+  taken x (Err t) v e y = rw y e
+  taken x (Ok went.Leaves) v e y = rw y
 
   one_at : told_of (burst p unit f 1 1 place w) ≡ round p most (at p fr rg d place w)
   unfolding round unit
@@ -85,16 +85,16 @@ module _ (p : Program) (most : ℕ) (fr rg : List ℕ) (d : ℕ) (g : Ready p fr
   whole y m fr' rg' e = ap (λ (x : Paused). told p most d x.why x.left x.frames x.regs) e ∙ (one_at ∙ ap (round p most) (at_start p most fr rg d g))
 
   module _ (m : ℕ) (fr' rg' : List ℕ) where
-    pub one_on : paused Past m fr' rg' ≡ stretch p unit 1 (state fr rg d) → m ≡ 0 → stepped (Go d) fr' rg' ≡ round p most (state fr rg d)
+    pub one_on : paused Past m fr' rg' ≡ stretch p unit 1 (state fr rg d) → m ≡ 0 → stepped (Ok d) fr' rg' ≡ round p most (state fr rg d)
     one_on e z = sym (rw (eq-eqb m 0 z)) ∙ whole Past m fr' rg' e
 
-    pub one_past : paused Past m fr' rg' ≡ stretch p unit 1 (state fr rg d) → (m ≡ 0 → ⊥) → stepped (Ends (Trapped InvalidPc)) fr' rg' ≡ round p most (state fr rg d)
+    pub one_past : paused Past m fr' rg' ≡ stretch p unit 1 (state fr rg d) → (m ≡ 0 → ⊥) → stepped (Err (Trapped InvalidPc)) fr' rg' ≡ round p most (state fr rg d)
     one_past e z = sym (rw (ne_eqb m 0 z)) ∙ whole Past m fr' rg' e
 
-    pub one_dry : paused Dry m fr' rg' ≡ stretch p unit 1 (state fr rg d) → stepped (Go d) fr' rg' ≡ round p most (state fr rg d)
+    pub one_dry : paused Dry m fr' rg' ≡ stretch p unit 1 (state fr rg d) → stepped (Ok d) fr' rg' ≡ round p most (state fr rg d)
     one_dry e = whole Dry m fr' rg' e
 
-    pub one_fails : (t : CoreTrap) → paused (Fails t) m fr' rg' ≡ stretch p unit 1 (state fr rg d) → stepped (Ends (Trapped t)) fr' rg' ≡ round p most (state fr rg d)
+    pub one_fails : (t : CoreTrap) → paused (Fails t) m fr' rg' ≡ stretch p unit 1 (state fr rg d) → stepped (Err (Trapped t)) fr' rg' ≡ round p most (state fr rg d)
     one_fails t e = whole (Fails t) m fr' rg' e
 
     pub one_leaves : paused Leaves m fr' rg' ≡ stretch p unit 1 (state fr rg d) → step p most (state fr' rg' d) ≡ round p most (state fr rg d)

@@ -63,10 +63,6 @@ module _ (p : Program) (fr : List ℕ) (n d : ℕ) where
     unfolding stands
     entry_stands h e = let l : 0 < d = omega arith in rw (lt-ltb _ _ l, h, e)
 
-    pub both_stand : stands_at p fr n (d - 1) ≡ true → (d ≡ 1 → ⊥) → stands_at p fr n (d - 2) ≡ stands p fr n d
-    unfolding stands
-    both_stand h e = let l : 0 < d = omega arith in rw (lt-ltb _ _ l, h, ne_eqb _ _ e)
-
   pub stands_ready : stands p fr n d ≡ true → Ready p fr n d
   unfolding stands
   stands_ready e =

@@ -9,6 +9,8 @@ use lib.ListN.{length}
 use lib.Seq.{get_or-set_same, get_or-set_other, set-set, set-get_or}
 use lib.Dec.{leb, ltb}
 use borrow.Author.Tests.{leb-true, leb-false, ltb-true, ltb-false}
+use Rattle.std.specs.Prelude.{Result, Ok, Err}
+use Rattle.runtime.specs.declared.CoreTrap.{CoreTrap}
 use Rattle.basis.specs.Choice.{pick}
 use Rattle.runtime.specs.declared.CoreTrap.TheVariants.{InvalidPc, FuelExceeded}
 use Rattle.instr.specs.declared.Instr.{Instr}
@@ -18,12 +20,11 @@ use Rattle.straight.specs.declared.Went.{Went}
 use Rattle.straight.specs.declared.Went.TheVariants as went
 use Rattle.straight.specs.Straight.{Local, straight}
 use Rattle.straight.proofs.Stays.{Stays, straight_stays}
+use Rattle.exec.specs.declared.Ending.{Ending}
 use Rattle.exec.specs.declared.frame.Top.{Top}
 use Rattle.exec.specs.declared.burst.Why.{Why}
 use Rattle.exec.specs.declared.burst.Why.TheVariants.{Past, Dry, Fails, Leaves}
 use Rattle.exec.specs.declared.Ending.TheVariants.{Trapped}
-use Rattle.exec.specs.declared.Step.{Step}
-use Rattle.exec.specs.declared.Step.TheVariants.{Go, Ends}
 use Rattle.exec.specs.Price.{Price, Fair}
 use Rattle.exec.specs.Lent.{part, State, state, top_of, top_at}
 use Rattle.exec.specs.Step.{Stepped, goes, stops, moved, landed, left, acted, step, next_instr, Inside}
@@ -39,7 +40,7 @@ abbrev pub Stop : Program → ℕ → Why → ℕ → ℕ → List ℕ → ℕ �
 Stop p f Past place left w n = Unit
 Stop p f Dry place left w n = Unit
 Stop p f (Fails t) place left w n = Unit
-Stop p f Leaves place left w n = (place < length_of p f) × ((straight (code_of p f place) w).went ≡ went.Leaves) × (left < n)
+Stop p f Leaves place left w n = (place < length_of p f) × ((straight (code_of p f place) w).went ≡ Ok went.Leaves) × (left < n)
 
 -- of a burst that began with n units and the registers w
 pub record Sound (p : Program) (f n : ℕ) (w : List ℕ) (h : Halted) : Type 0 where
@@ -63,12 +64,12 @@ module _ (p : Program) (f n m place : ℕ) (w : List ℕ) (inside : place < leng
     stop = stop_more p f h.why h.place h.left h.regs m n (omega arith) s.stop;
   }
 
-  further_sound : (a : Went) (v : List ℕ) (k : ℕ → List ℕ → Halted) → (straight (code_of p f place) w).went ≡ a → Stays w a v
+  further_sound : (a : Result Went CoreTrap) (v : List ℕ) (k : ℕ → List ℕ → Halted) → (straight (code_of p f place) w).went ≡ a → Stays w a v
       → ((q : ℕ) (u : List ℕ) → Sound p f m u (k q u)) → Sound p f n w (further a v place m k)
-  further_sound went.On v k g e ih = sound_more (k (place + 1) v) v (ih (place + 1) v) e
-  further_sound (went.To q) v k g e ih = sound_more (k q v) v (ih q v) (ap length e)
-  further_sound (went.Fails t) v k g e ih = record { fuel = omega arith; long = ap length e; stop = tt }
-  further_sound went.Leaves v k g e ih =
+  further_sound (Ok went.On) v k g e ih = sound_more (k (place + 1) v) v (ih (place + 1) v) e
+  further_sound (Ok (went.To q)) v k g e ih = sound_more (k q v) v (ih q v) (ap length e)
+  further_sound (Err t) v k g e ih = record { fuel = omega arith; long = ap length e; stop = tt }
+  further_sound (Ok went.Leaves) v k g e ih =
       record { fuel = omega arith; long = ap length e; stop = (inside, rw e g, less) }
 
 pub burst_sound : (p : Program) (price : Price) → Fair price → (f n left place : ℕ) (w : List ℕ) → Sound p f left w (burst p price f n left place w)
@@ -125,11 +126,11 @@ abbrev resumed : Program → Price → ℕ → ℕ → List ℕ → List ℕ →
 resumed p price most n fr rg d h = resume p price most n d h.why h.left (at p fr rg d h.place h.regs).frames (at p fr rg d h.place h.regs).regs
 
 -- what an instruction does there
-abbrev pub lands : Program → List ℕ → List ℕ → ℕ → ℕ → List ℕ → Stepped → Went → List ℕ → Stepped
-lands p fr rg d n w l went.On v = goes (at p fr rg d (n + 1) v)
-lands p fr rg d n w l (went.To q) v = goes (at p fr rg d q v)
-lands p fr rg d n w l (went.Fails t) v = stops (at p fr rg d n w) (Ends (Trapped t))
-lands p fr rg d n w l went.Leaves v = l
+abbrev pub lands : Program → List ℕ → List ℕ → ℕ → ℕ → List ℕ → Stepped → Result Went CoreTrap → List ℕ → Stepped
+lands p fr rg d n w l (Ok went.On) v = goes (at p fr rg d (n + 1) v)
+lands p fr rg d n w l (Ok (went.To q)) v = goes (at p fr rg d q v)
+lands p fr rg d n w l (Err t) v = stops (at p fr rg d n w) (Err (Trapped t))
+lands p fr rg d n w l (Ok went.Leaves) v = l
 
 module _ (p : Program) (most : ℕ) (fr rg : List ℕ) (d : ℕ) (g : Ready p fr (length rg) d) where
   fits : (top_of p fr d).first + (top_of p fr d).limit ≤ length rg
@@ -155,12 +156,12 @@ module _ (p : Program) (most : ℕ) (fr rg : List ℕ) (d : ℕ) (g : Ready p fr
   cost_at_lem : (price : Price) (n : ℕ) (w : List ℕ) → cost_at p price (at p fr rg d n w) ≡ price (code_of p (top_of p fr d).function n).op
   cost_at_lem price n w = ap (λ (t : Top). price (code_of p t.function t.place).op) (top_at_lem n w)
 
-  landed_at : (n : ℕ) (w : List ℕ) (l : Stepped) (a : Went) (v : List ℕ) → length w ≡ (top_of p fr d).limit
+  landed_at : (n : ℕ) (w : List ℕ) (l : Stepped) (a : Result Went CoreTrap) (v : List ℕ) → length w ≡ (top_of p fr d).limit
       → landed (at p fr rg d n w) (placed (top_of p fr d) n) l a v ≡ lands p fr rg d n w l a v
-  landed_at n w l went.On v e = rw (set-set fr (4 * (d - 1) + 1) n (n + 1), put_put rg (top_of p fr d).first (top_of p fr d).limit fits w v e)
-  landed_at n w l (went.To q) v e = rw (set-set fr (4 * (d - 1) + 1) n q, put_put rg (top_of p fr d).first (top_of p fr d).limit fits w v e)
-  landed_at n w l (went.Fails t) v e = refl
-  landed_at n w l went.Leaves v e = refl
+  landed_at n w l (Ok went.On) v e = rw (set-set fr (4 * (d - 1) + 1) n (n + 1), put_put rg (top_of p fr d).first (top_of p fr d).limit fits w v e)
+  landed_at n w l (Ok (went.To q)) v e = rw (set-set fr (4 * (d - 1) + 1) n q, put_put rg (top_of p fr d).first (top_of p fr d).limit fits w v e)
+  landed_at n w l (Err t) v e = refl
+  landed_at n w l (Ok went.Leaves) v e = refl
 
   -- what a step there does that leaves the frame
   abbrev pub leaves_at : ℕ → List ℕ → Stepped
@@ -183,7 +184,7 @@ module _ (p : Program) (price : Price) (fair : Fair price) (most : ℕ) (fr rg :
   leave_at n left s c h k l b =
       let z : left - (left - c) ≡ c = omega arith in
       let some : 1 ≤ c = rw (← k) (fair.some (next_instr p s).op) in
-      let x : Step = (step p most s).answer in
+      let x : Result ℕ Ending = (step p most s).answer in
       let fr' : List ℕ = (step p most s).frames in
       let rg' : List ℕ = (step p most s).regs in
       for_step p price most n left s x fr' rg' h (rw k l) refl
@@ -199,23 +200,23 @@ module _ (p : Program) (price : Price) (fair : Fair price) (most : ℕ) (fr rg :
       resume_later p price most c (left - c) left d b.why b.left (at p fr rg d b.place b.regs).frames (at p fr rg d b.place b.regs).regs
       (burst_sound p price fair (top_of p fr d).function n (left - c) q v).fuel (omega arith)
 
-  turn_at : (n left place : ℕ) (w : List ℕ) (c : ℕ) (x : Stepped) (a : Went) (v : List ℕ) → length w ≡ (top_of p fr d).limit → Inside p (at p fr rg d place w)
+  turn_at : (n left place : ℕ) (w : List ℕ) (c : ℕ) (x : Stepped) (a : Result Went CoreTrap) (v : List ℕ) → length w ≡ (top_of p fr d).limit → Inside p (at p fr rg d place w)
       → cost_at p price (at p fr rg d place w) ≡ c → c ≤ left → left ≤ suc n → lands p fr rg d place w x a v ≡ step p most (at p fr rg d place w) → Stays w a v
       → ((q : ℕ) (u : List ℕ) → length u ≡ (top_of p fr d).limit
       → run_for p price most n (left - c) (at p fr rg d q u) ≡ resumed p price most (left - c) fr rg d (burst p price (top_of p fr d).function n (left - c) q u))
       → run_for p price most (suc n) left (at p fr rg d place w)
       ≡ resumed p price most left fr rg d (further a v place (left - c) (λ q u. burst p price (top_of p fr d).function n (left - c) q u))
-  turn_at n left place w c x went.On v e h k l m s y ih =
-      for_step p price most n left (at p fr rg d place w) (Go d) _ _ h (rw k l) s
+  turn_at n left place w c x (Ok went.On) v e h k l m s y ih =
+      for_step p price most n left (at p fr rg d place w) (Ok d) _ _ h (rw k l) s
       ∙ rw k (ap (later c) (ih (place + 1) v (y ∙ e)) ∙ rest_at c n left (place + 1) v l)
-  turn_at n left place w c x (went.To q) v e h k l m s y ih =
-      for_step p price most n left (at p fr rg d place w) (Go d) _ _ h (rw k l) s
+  turn_at n left place w c x (Ok (went.To q)) v e h k l m s y ih =
+      for_step p price most n left (at p fr rg d place w) (Ok d) _ _ h (rw k l) s
       ∙ rw k (ap (later c) (ih q v (ap length y ∙ e)) ∙ rest_at c n left q v l)
-  turn_at n left place w c x (went.Fails t) v e h k l m s y ih =
+  turn_at n left place w c x (Err t) v e h k l m s y ih =
       let z : left - (left - c) ≡ c = omega arith in
-      for_step p price most n left (at p fr rg d place w) (Ends (Trapped t)) _ _ h (rw k l) s
+      for_step p price most n left (at p fr rg d place w) (Err (Trapped t)) _ _ h (rw k l) s
       ∙ rw (k, y, z)
-  turn_at n left place w c x went.Leaves v e h k l m s y ih = rw y (leave_at n left (at p fr rg d place w) c h k l m)
+  turn_at n left place w c x (Ok went.Leaves) v e h k l m s y ih = rw y (leave_at n left (at p fr rg d place w) c h k l m)
 
   past_burst : (n left place : ℕ) (w : List ℕ) → length_of p (top_of p fr d).function ≤ place
       → run_for p price most n left (at p fr rg d place w) ≡ resumed p price most left fr rg d (burst p price (top_of p fr d).function n left place w)

@@ -7,6 +7,7 @@ use native.Mathlib.Omega.{arith}
 use lib.Dec.{eqb, ltb}
 use lib.ListN.{length, get_or, take}
 use borrow.Author.Tests.{lt-ltb}
+use Rattle.std.specs.Prelude.{Some, None, Result, Ok, Err, IsErrAnd}
 use Rattle.basis.specs.Choice.{pick}
 use Rattle.runtime.specs.Trap.{trap_code}
 use Rattle.value.specs.declared.result.CoreStatus.{CoreStatus}
@@ -14,17 +15,13 @@ use Rattle.value.specs.declared.result.CoreStatus.TheVariants as status
 use Rattle.value.specs.declared.result.CoreResult.{CoreResult}
 use Rattle.image.specs.Records.{form1}
 use Rattle.image.specs.Image.{fault_numbers, image_fault}
-use Rattle.image.specs.WellFormed.{WellFormed}
 use Rattle.image.specs.Program.{decode}
 use Rattle.image.specs.declared.ImageFault.{ImageFault}
 use Rattle.image.specs.declared.ImageFault.TheVariants.{Short, Form, Layout, FunctionTable, Instruction}
-use Rattle.image.proofs.Agree.{well_formed}
 use Rattle.image.proofs.Checks.{fault_unfine}
 use Rattle.exec.specs.declared.Ending.{Ending}
-use Rattle.exec.specs.declared.Step.{Step}
-use Rattle.exec.specs.declared.StepFound.TheVariants.{NoFrame, Took}
-use Rattle.exec.specs.declared.CoreOutcome.{CoreOutcome}
-use Rattle.exec.specs.declared.CoreOutcome.TheVariants.{Done, Image, FrameRoom, RegisterRoom}
+use Rattle.exec.specs.declared.Refusal.{Refusal}
+use Rattle.exec.specs.declared.Refusal.TheVariants.{Image, FrameRoom, RegisterRoom}
 use Rattle.exec.specs.Price.{unit}
 use Rattle.exec.specs.Lent.{state}
 use Rattle.exec.specs.Step.{stepped, stands, round, found, step_found}
@@ -32,21 +29,18 @@ use Rattle.exec.specs.Run.{final}
 use Rattle.exec.specs.Execute.{result_numbers, outcome_numbers, outcome_of, entered, executed, ended, execution, by_status, settled, execution_numbers, trap_alone}
 
 module _ (s : List ℕ) where
-  pub formed : [] ≡ image_fault form1 s → WellFormed form1 s
-  formed e = (well_formed form1 s).0 (sym e)
-
   -- ---- one step
   module _ (most : ℕ) (fr rg : List ℕ) (d : ℕ) where
-    pub found_fault : (f : ImageFault) → fault_numbers f ≡ image_fault form1 s → found NoFrame fr rg ≡ step_found form1 s most (state fr rg d)
+    pub found_fault : (f : ImageFault) → fault_numbers f ≡ image_fault form1 s → found None fr rg ≡ step_found form1 s most (state fr rg d)
     unfolding step_found
     found_fault f e = rw (← e, ← fault_unfine f)
 
-    pub found_none : [] ≡ image_fault form1 s → stands (decode form1 s) fr (length rg) d ≡ false → found NoFrame fr rg ≡ step_found form1 s most (state fr rg d)
+    pub found_none : [] ≡ image_fault form1 s → stands (decode form1 s) fr (length rg) d ≡ false → found None fr rg ≡ step_found form1 s most (state fr rg d)
     unfolding step_found
     found_none e h = rw (← e, h)
 
-    pub found_step : [] ≡ image_fault form1 s → stands (decode form1 s) fr (length rg) d ≡ true → (x : Step) (fr' rg' : List ℕ)
-        → stepped x fr' rg' ≡ round (decode form1 s) most (state fr rg d) → found (Took x) fr' rg' ≡ step_found form1 s most (state fr rg d)
+    pub found_step : [] ≡ image_fault form1 s → stands (decode form1 s) fr (length rg) d ≡ true → (x : Result ℕ Ending) (fr' rg' : List ℕ)
+        → stepped x fr' rg' ≡ round (decode form1 s) most (state fr rg d) → found (Some x) fr' rg' ≡ step_found form1 s most (state fr rg d)
     unfolding step_found
     found_step e h x fr' rg' q = rw (← e, h, ← q)
 
@@ -56,19 +50,25 @@ module _ (s : List ℕ) where
     unfolding execution
     ends_fault f e = rw (← e, ← fault_unfine f)
 
+    -- as `?` refuses it
+    pub ends_refused : (f : ImageFault) → fault_numbers f ≡ image_fault form1 s → (o : Result CoreResult Refusal) → IsErrAnd o (λ r. r ≡ Image f)
+        → executed (outcome_numbers o) fr rg ≡ execution form1 unit s most fuel fr rg
+    ends_refused f e (Ok r) none = absurd none
+    ends_refused f e (Err r) of = rw of (ends_fault f e)
+
     pub fine_run : [] ≡ image_fault form1 s → ended (entered (decode form1 s) unit most fuel fr rg) ≡ execution form1 unit s most fuel fr rg
     unfolding execution
     fine_run e = sym (rw (← e))
 
-    pub ends_run : [] ≡ image_fault form1 s → (o : CoreOutcome) (what : Ending) (used : ℕ) (fr' rg' : List ℕ) → o ≡ outcome_of what used
+    pub ends_run : [] ≡ image_fault form1 s → (o : Result CoreResult Refusal) (what : Ending) (used : ℕ) (fr' rg' : List ℕ) → o ≡ outcome_of what used
         → final what used fr' rg' ≡ entered (decode form1 s) unit most fuel fr rg → executed (outcome_numbers o) fr' rg' ≡ execution form1 unit s most fuel fr rg
-    ends_run e o what used fr' rg' a q = ap (λ (x : CoreOutcome). executed (outcome_numbers x) fr' rg') a ∙ (ap ended q ∙ fine_run e)
+    ends_run e o what used fr' rg' a q = ap (λ (x : Result CoreResult Refusal). executed (outcome_numbers x) fr' rg') a ∙ (ap ended q ∙ fine_run e)
 
 -- ---- a trap by itself
 abbrev alone : List ℕ → List ℕ
 alone ns = pick (eqb (get_or ns 0 0) 0 && ltb 0 (get_or ns 1 0)) (take 2 ns) ns
 
-result_alone : (r : CoreResult) (st : CoreStatus) → r.status ≡ st → execution_numbers (by_status st r) ≡ alone (0 ∷ result_numbers r)
+result_alone : (r : CoreResult) (st : CoreStatus) → r.status ≡ st → execution_numbers (Ok (by_status st r)) ≡ alone (0 ∷ result_numbers r)
 result_alone r status.Returned e = rw e
 result_alone r (status.Trapped t) e = let l : 0 < 1 + trap_code t = omega arith in rw (e, lt-ltb 0 (1 + trap_code t) l)
 
@@ -79,12 +79,12 @@ fault_alone Layout = refl
 fault_alone (FunctionTable k) = refl
 fault_alone (Instruction k) = refl
 
-numbers_alone : (o : CoreOutcome) → execution_numbers (settled o) ≡ alone (outcome_numbers o)
+numbers_alone : (o : Result CoreResult Refusal) → execution_numbers (settled o) ≡ alone (outcome_numbers o)
 unfolding settled
-numbers_alone (Done r) = result_alone r r.status refl
-numbers_alone (Image fault) = fault_alone fault
-numbers_alone (FrameRoom used) = refl
-numbers_alone (RegisterRoom used) = refl
+numbers_alone (Ok r) = result_alone r r.status refl
+numbers_alone (Err (Image fault)) = fault_alone fault
+numbers_alone (Err (FrameRoom used)) = refl
+numbers_alone (Err (RegisterRoom used)) = refl
 
-pub settled_alone : (o : CoreOutcome) (fr rg : List ℕ) → executed (execution_numbers (settled o)) fr rg ≡ trap_alone (executed (outcome_numbers o) fr rg)
+pub settled_alone : (o : Result CoreResult Refusal) (fr rg : List ℕ) → executed (execution_numbers (settled o)) fr rg ≡ trap_alone (executed (outcome_numbers o) fr rg)
 settled_alone o fr rg = ap (λ (ns : List ℕ). executed ns fr rg) (numbers_alone o)

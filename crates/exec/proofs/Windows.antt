@@ -8,6 +8,7 @@ use lib.Dec.{ltb, leb, eqb}
 use lib.ListN.{length, set, length-set}
 use lib.Seq.{get_or-set_same, get_or-set_other, set-set}
 use borrow.Author.Tests.{ltb-true, ltb-false, leb-true, lt-ltb, le-leb}
+use Rattle.std.specs.Prelude.{Ok, Err}
 use Rattle.basis.specs.Choice.{pick}
 use Rattle.runtime.specs.declared.CoreTrap.TheVariants.{InvalidRegister}
 use Rattle.instr.specs.declared.Instr.{Instr}
@@ -23,7 +24,6 @@ use Rattle.exec.specs.declared.burst.Why.{Why}
 use Rattle.exec.specs.declared.burst.Why.TheVariants.{Past, Dry, Fails, Leaves}
 use Rattle.exec.specs.declared.Ending.{Ending}
 use Rattle.exec.specs.declared.Ending.TheVariants.{Trapped}
-use Rattle.exec.specs.declared.Step.TheVariants.{Go, Ends}
 use Rattle.exec.specs.Price.{Price, Fair}
 use Rattle.exec.specs.Lent.{part, put, State, state, dst_word, top_of}
 use Rattle.exec.specs.Step.{Stepped, stepped, stops, goes, too_deep, window_fits, pushed_frames, pushed_regs, called, handed, returned, left, step}
@@ -85,17 +85,17 @@ view_ready p zs ws n d k v g = record {
 -- ---- what a turn makes of them
 -- one answer for both, with depths of their own; at most the running frame's record is another, r, and one is pushed on it, q
 pub data Both (zs ws : List FrameRecord) (d k : ℕ) (o u : Turned) : Type 0 where
-  ends : (m : ℕ) (e : Ending) (r : FrameRecord) (rg : List ℕ) → o ≡ turned m (Ends e) (words_of (set zs (d - 1) r)) rg → u ≡ turned m (Ends e) (words_of (set ws (k - 1) r)) rg → Both zs ws d k o u
-  pushes : (m : ℕ) (r q : FrameRecord) (rg : List ℕ) → d < length zs → k < length ws → o ≡ turned m (Go (d + 1)) (words_of (set (set zs (d - 1) r) d q)) rg
-      → u ≡ turned m (Go (k + 1)) (words_of (set (set ws (k - 1) r) k q)) rg → Both zs ws d k o u
-  pops : (m : ℕ) (r : FrameRecord) (rg : List ℕ) → 1 < d → o ≡ turned m (Go (d - 1)) (words_of (set zs (d - 1) r)) rg → u ≡ turned m (Go (k - 1)) (words_of (set ws (k - 1) r)) rg → Both zs ws d k o u
+  ends : (m : ℕ) (e : Ending) (r : FrameRecord) (rg : List ℕ) → o ≡ turned m (Err e) (words_of (set zs (d - 1) r)) rg → u ≡ turned m (Err e) (words_of (set ws (k - 1) r)) rg → Both zs ws d k o u
+  pushes : (m : ℕ) (r q : FrameRecord) (rg : List ℕ) → d < length zs → k < length ws → o ≡ turned m (Ok (d + 1)) (words_of (set (set zs (d - 1) r) d q)) rg
+      → u ≡ turned m (Ok (k + 1)) (words_of (set (set ws (k - 1) r) k q)) rg → Both zs ws d k o u
+  pops : (m : ℕ) (r : FrameRecord) (rg : List ℕ) → 1 < d → o ≡ turned m (Ok (d - 1)) (words_of (set zs (d - 1) r)) rg → u ≡ turned m (Ok (k - 1)) (words_of (set ws (k - 1) r)) rg → Both zs ws d k o u
 
 -- so of the Call or Ret in it, before which nothing of the records changes
 data Alike (zs ws : List FrameRecord) (d k : ℕ) (rg : List ℕ) (o u : Stepped) : Type 0 where
-  ends : (e : Ending) → o ≡ stepped (Ends e) (words_of zs) rg → u ≡ stepped (Ends e) (words_of ws) rg → Alike zs ws d k rg o u
-  pushes : (r q : FrameRecord) (rg' : List ℕ) → d < length zs → k < length ws → o ≡ stepped (Go (d + 1)) (words_of (set (set zs (d - 1) r) d q)) rg'
-      → u ≡ stepped (Go (k + 1)) (words_of (set (set ws (k - 1) r) k q)) rg' → Alike zs ws d k rg o u
-  pops : (rg' : List ℕ) → 1 < d → o ≡ stepped (Go (d - 1)) (words_of zs) rg' → u ≡ stepped (Go (k - 1)) (words_of ws) rg' → Alike zs ws d k rg o u
+  ends : (e : Ending) → o ≡ stepped (Err e) (words_of zs) rg → u ≡ stepped (Err e) (words_of ws) rg → Alike zs ws d k rg o u
+  pushes : (r q : FrameRecord) (rg' : List ℕ) → d < length zs → k < length ws → o ≡ stepped (Ok (d + 1)) (words_of (set (set zs (d - 1) r) d q)) rg'
+      → u ≡ stepped (Ok (k + 1)) (words_of (set (set ws (k - 1) r) k q)) rg' → Alike zs ws d k rg o u
+  pops : (rg' : List ℕ) → 1 < d → o ≡ stepped (Ok (d - 1)) (words_of zs) rg' → u ≡ stepped (Ok (k - 1)) (words_of ws) rg' → Alike zs ws d k rg o u
 
 by : (zs ws : List FrameRecord) (d k : ℕ) (rg : List ℕ) (b c : Bool) (x y v w : Stepped) → c ≡ b → (b ≡ true → Alike zs ws d k rg x v) → (b ≡ false → Alike zs ws d k rg y w)
     → Alike zs ws d k rg (pick b x y) (pick c v w)
@@ -151,7 +151,7 @@ module _ (zs ws : List FrameRecord) (d k : ℕ) (v : View zs ws d k) where
 
     -- ---- Ret
     abbrev passed : Top → ℕ → State → ℕ → Stepped
-    passed q dst x w = pick (ltb dst q.limit) (goes (state x.frames (set x.regs (q.first + dst) w) (x.depth - 1))) (stops x (Ends (Trapped InvalidRegister)))
+    passed q dst x w = pick (ltb dst q.limit) (goes (state x.frames (set x.regs (q.first + dst) w) (x.depth - 1))) (stops x (Err (Trapped InvalidRegister)))
 
     below_same : 1 < d → top_of p (words_of ws) (k - 1) ≡ top_of p (words_of zs) (d - 1)
     below_same h = top_from_lem p ws (k - 1) ∙ ap (top_from p) (v.below h) ∙ sym (top_from_lem p zs (d - 1))
@@ -246,7 +246,7 @@ module _ (p : Program) (price : Price) (fair : Fair price) (zs ws : List FrameRe
     leaves_window =
         record {
           inside = subst (λ (q : Top). q.place < length_of p q.function) (sym top_same) leaves.inside;
-          leaves = subst (λ (q : Top). (straight (code_of p q.function q.place) (part rest q.first q.limit)).went ≡ went.Leaves) (sym top_same) leaves.leaves;
+          leaves = subst (λ (q : Top). (straight (code_of p q.function q.place) (part rest q.first q.limit)).went ≡ Ok went.Leaves) (sym top_same) leaves.leaves;
         }
 
     abbrev acted : Stepped → Turned
@@ -256,8 +256,8 @@ module _ (p : Program) (price : Price) (fair : Fair price) (zs ws : List FrameRe
     left_turns o u (ends e x y) = ends m e after rest (ap acted x) (ap acted y)
     left_turns o u (pushes r q rg' h l x y) =
         pushes m r q rg' (rw length-set at h) (rw length-set at l)
-        (ap acted x ∙ ap (λ (l : List FrameRecord). turned m (Go (d + 1)) (words_of (set l d q)) rg') (set-set zs (d - 1) after r))
-        (ap acted y ∙ ap (λ (l : List FrameRecord). turned m (Go (k + 1)) (words_of (set l k q)) rg') (set-set ws (k - 1) after r))
+        (ap acted x ∙ ap (λ (l : List FrameRecord). turned m (Ok (d + 1)) (words_of (set l d q)) rg') (set-set zs (d - 1) after r))
+        (ap acted y ∙ ap (λ (l : List FrameRecord). turned m (Ok (k + 1)) (words_of (set l k q)) rg') (set-set ws (k - 1) after r))
     left_turns o u (pops rg' h x y) = pops m after rg' h (ap acted x) (ap acted y)
 
     abbrev q : Top

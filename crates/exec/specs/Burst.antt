@@ -2,7 +2,8 @@
 -- and a turn: a burst and that instruction.
 -- The promises of this crate's public functions do not mention it. The inner loop is proved against it, and proofs/Stretches joins it
 -- to the run.
-use Rattle.std.specs.Prelude.{ℕ, zero, suc, ◌+◌, ◌*◌, ◌-◌, ◌≤◌, ◌<◌, ◌≡◌, List, leb, ltb, length}
+use Rattle.std.specs.Prelude.{ℕ, zero, suc, ◌+◌, ◌*◌, ◌-◌, ◌≤◌, ◌<◌, ◌≡◌, List, leb, ltb, length, Result, Err, Ok}
+use Rattle.runtime.specs.declared.CoreTrap.{CoreTrap}
 use Rattle.basis.specs.Choice.{pick}
 use Rattle.runtime.specs.declared.CoreTrap.TheVariants.{InvalidPc, FuelExceeded}
 use Rattle.image.specs.Program.{Program}
@@ -10,12 +11,11 @@ use Rattle.image.specs.Parts.{functions_of, regs_of, length_of, code_of}
 use Rattle.straight.specs.declared.Went.{Went}
 use Rattle.straight.specs.declared.Went.TheVariants as went
 use Rattle.straight.specs.Straight.{straight}
+use Rattle.exec.specs.declared.Ending.{Ending}
 use Rattle.exec.specs.declared.frame.Top.{Top}
 use Rattle.exec.specs.declared.burst.Why.{Why}
 use Rattle.exec.specs.declared.burst.Why.TheVariants.{Past, Dry, Fails, Leaves}
 use Rattle.exec.specs.declared.Ending.TheVariants.{Trapped}
-use Rattle.exec.specs.declared.Step.{Step}
-use Rattle.exec.specs.declared.Step.TheVariants.{Ends}
 use Rattle.exec.specs.Price.{Price}
 use Rattle.lent.specs.Records.{frame_words}
 use Rattle.exec.specs.Lent.{function_word, first_word, part, State, state, top_of, top_at}
@@ -32,11 +32,11 @@ abbrev pub halted : Why → ℕ → ℕ → List ℕ → Halted
 halted why place left w = record { why = why; place = place; left = left; regs = w }
 
 -- after one instruction of the frame, with n units left: on, or the end
-abbrev pub further : Went → List ℕ → ℕ → ℕ → (ℕ → List ℕ → Halted) → Halted
-further went.On w place n rest = rest (place + 1) w
-further (went.To q) w place n rest = rest q w
-further (went.Fails t) w place n rest = halted (Fails t) place n w
-further went.Leaves w place n rest = halted Leaves place n w
+abbrev pub further : Result Went CoreTrap → List ℕ → ℕ → ℕ → (ℕ → List ℕ → Halted) → Halted
+further (Ok went.On) w place n rest = rest (place + 1) w
+further (Ok (went.To q)) w place n rest = rest q w
+further (Err t) w place n rest = halted (Fails t) place n w
+further (Ok went.Leaves) w place n rest = halted Leaves place n w
 
 -- of function f with `left` units, for at most n instructions
 unfoldable pub burst : Program → Price → ℕ → ℕ → ℕ → ℕ → List ℕ → Halted
@@ -71,18 +71,18 @@ stretch p price fuel s =
 -- ---- a turn: the burst of the running frame, and the instruction at which it is left
 pub record Turned : Type 0 where
   pub left : ℕ
-  pub answer : Step
+  pub answer : Result ℕ Ending
   pub frames : List ℕ
   pub regs : List ℕ
 
-abbrev pub turned : ℕ → Step → List ℕ → List ℕ → Turned
+abbrev pub turned : ℕ → Result ℕ Ending → List ℕ → List ℕ → Turned
 turned left answer frames regs = record { left = left; answer = answer; frames = frames; regs = regs }
 
 -- where the burst stopped, with m units left: an end, or Call or Ret, which is charged and acts now
 abbrev pub acting : Program → ℕ → ℕ → Why → ℕ → List ℕ → List ℕ → Turned
-acting p most d Past m frames regs = turned m (Ends (Trapped InvalidPc)) frames regs
-acting p most d Dry m frames regs = turned m (Ends (Trapped FuelExceeded)) frames regs
-acting p most d (Fails t) m frames regs = turned m (Ends (Trapped t)) frames regs
+acting p most d Past m frames regs = turned m (Err (Trapped InvalidPc)) frames regs
+acting p most d Dry m frames regs = turned m (Err (Trapped FuelExceeded)) frames regs
+acting p most d (Fails t) m frames regs = turned m (Err (Trapped t)) frames regs
 acting p most d Leaves m frames regs =
     let o = step p most (state frames regs d) in
     turned m o.answer o.frames o.regs
@@ -108,7 +108,7 @@ pub record Ready (p : Program) (frames : List ℕ) (n : ℕ) (d : ℕ) : Type 0 
 -- the running frame is at an instruction that leaves it
 pub record AtLeave (p : Program) (frames regs : List ℕ) (d : ℕ) : Type 0 where
   pub inside : (top_of p frames d).place < length_of p (top_of p frames d).function
-  pub leaves : (straight (code_of p (top_of p frames d).function (top_of p frames d).place) (part regs (top_of p frames d).first (top_of p frames d).limit)).went ≡ went.Leaves
+  pub leaves : (straight (code_of p (top_of p frames d).function (top_of p frames d).place) (part regs (top_of p frames d).first (top_of p frames d).limit)).went ≡ Ok went.Leaves
 
 -- the arguments of a Call fit
 pub record Window (limit n base count : ℕ) : Type 0 where

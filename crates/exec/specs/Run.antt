@@ -1,12 +1,10 @@
 -- A run: step after step until one ends it, or the fuel does.
-use Rattle.std.specs.Prelude.{ℕ, zero, suc, ◌+◌, ◌-◌, List, ltb}
+use Rattle.std.specs.Prelude.{ℕ, zero, suc, ◌+◌, ◌-◌, List, ltb, Result, Ok, Err}
 use Rattle.basis.specs.Choice.{pick}
 use Rattle.runtime.specs.declared.CoreTrap.TheVariants.{InvalidPc, FuelExceeded}
 use Rattle.image.specs.Program.{Program}
 use Rattle.exec.specs.declared.Ending.{Ending}
 use Rattle.exec.specs.declared.Ending.TheVariants.{Trapped}
-use Rattle.exec.specs.declared.Step.{Step}
-use Rattle.exec.specs.declared.Step.TheVariants.{Go, Ends}
 use Rattle.exec.specs.Price.{Price}
 use Rattle.exec.specs.Lent.{State, state}
 use Rattle.exec.specs.Step.{next_instr, step, is_past}
@@ -26,9 +24,9 @@ abbrev pub later : ℕ → Final → Final
 later n f = final f.what (n + f.used) f.frames f.regs
 
 -- after a step that was charged c: what is left of the run, or the end
-abbrev pub onward : ℕ → Step → List ℕ → List ℕ → (State → Final) → Final
-onward c (Go d) frames regs rest = later c (rest (state frames regs d))
-onward c (Ends e) frames regs rest = final e c frames regs
+abbrev pub onward : ℕ → Result ℕ Ending → List ℕ → List ℕ → (State → Final) → Final
+onward c (Ok d) frames regs rest = later c (rest (state frames regs d))
+onward c (Err e) frames regs rest = final e c frames regs
 
 -- the charge for the instruction that is next
 abbrev pub cost_at : Program → Price → State → ℕ

@@ -1,5 +1,6 @@
 -- One step of the machine: the running frame's instruction acts. Nothing here knows of fuel.
-use Rattle.std.specs.Prelude.{ℕ, ◌+◌, ◌*◌, ◌-◌, ◌<◌, Bool, ◌&&◌, ◌||◌, List, ◌++◌, ltb, leb, eqb, length, get_or, set, take, drop, replicate}
+use Rattle.std.specs.Prelude.{ℕ, ◌+◌, ◌*◌, ◌-◌, ◌<◌, Bool, ◌&&◌, ◌||◌, List, ◌++◌, ltb, leb, eqb, length, get_or, set, take, drop, replicate, Option, Some, None, Result, Ok, Err}
+use Rattle.runtime.specs.declared.CoreTrap.{CoreTrap}
 use Rattle.std.proofs.lemmas.List.Edits.{sets}
 use Rattle.basis.specs.Choice.{pick}
 use Rattle.basis.specs.Answers.{is_fine}
@@ -10,33 +11,30 @@ use Rattle.image.specs.Image.{image_fault}
 use Rattle.image.specs.Program.{Program, decode}
 use Rattle.image.specs.Parts.{functions_of, regs_of, length_of, code_of, Call}
 use Rattle.straight.specs.declared.Went.{Went}
-use Rattle.straight.specs.declared.Went.TheVariants.{On, To, Fails, Leaves}
+use Rattle.straight.specs.declared.Went.TheVariants.{On, To, Leaves}
 use Rattle.straight.specs.Straight.{straight}
+use Rattle.exec.specs.declared.Ending.{Ending}
 use Rattle.exec.specs.declared.frame.Top.{Top}
 use Rattle.exec.specs.declared.Ending.TheVariants.{Returned, Trapped, FrameRoom, RegisterRoom}
-use Rattle.exec.specs.declared.Step.{Step}
-use Rattle.exec.specs.declared.Step.TheVariants.{Go, Ends}
-use Rattle.exec.specs.declared.StepFound.{StepFound}
-use Rattle.exec.specs.declared.StepFound.TheVariants.{NoFrame, Took}
 use Rattle.lent.specs.Records.{record_of, frame_words}
 use Rattle.exec.specs.Lent.{function_word, dst_word, first_word, unit_word, part, put, State, state, top_of, top_at}
 
 -- ---- what a step answers, and the lent words after it
 pub record Stepped : Type 0 where
-  pub answer : Step
+  pub answer : Result ℕ Ending
   pub frames : List ℕ
   pub regs : List ℕ
 
-abbrev pub stepped : Step → List ℕ → List ℕ → Stepped
+abbrev pub stepped : Result ℕ Ending → List ℕ → List ℕ → Stepped
 stepped answer frames regs = record { answer = answer; frames = frames; regs = regs }
 
 -- the run ends, and nothing is written
-abbrev pub stops : State → Step → Stepped
+abbrev pub stops : State → Result ℕ Ending → Stepped
 stops s answer = stepped answer s.frames s.regs
 
 -- the machine goes on from here
 abbrev pub goes : State → Stepped
-goes s = stepped (Go s.depth) s.frames s.regs
+goes s = stepped (Ok s.depth) s.frames s.regs
 
 -- ---- inside the running frame t
 -- it is now at the place n, with the registers w
@@ -46,11 +44,11 @@ moved s t n w =
 
 -- an instruction inside the frame moves it, and a trap writes nothing: the record's place stays at the instruction that failed.
 -- `leaving` is what one does that leaves the frame
-abbrev pub landed : State → Top → Stepped → Went → List ℕ → Stepped
-landed s t leaving On w = goes (moved s t (t.place + 1) w)
-landed s t leaving (To n) w = goes (moved s t n w)
-landed s t leaving (Fails trap) w = stops s (Ends (Trapped trap))
-landed s t leaving Leaves w = leaving
+abbrev pub landed : State → Top → Stepped → Result Went CoreTrap → List ℕ → Stepped
+landed s t leaving (Ok On) w = goes (moved s t (t.place + 1) w)
+landed s t leaving (Ok (To n)) w = goes (moved s t n w)
+landed s t leaving (Err trap) w = stops s (Err (Trapped trap))
+landed s t leaving (Ok Leaves) w = leaving
 
 -- ---- Call: dst is in a, the function in b, arg_base in c, arg_count in w
 -- there are as many frames as the limit allows, the entry frame among them
@@ -76,13 +74,13 @@ pushed_regs regs t i n =
 unfoldable pub called : Program → ℕ → State → Top → Instr → Stepped
 called p most s t i =
     let n = regs_of p i.b in
-    pick (too_deep most s.depth) (stops s (Ends (Trapped CallDepthExceeded)))
-    (pick (leb (functions_of p) i.b) (stops s (Ends (Trapped InvalidFunction)))
+    pick (too_deep most s.depth) (stops s (Err (Trapped CallDepthExceeded)))
+    (pick (leb (functions_of p) i.b) (stops s (Err (Trapped InvalidFunction)))
     (pick (window_fits t.limit n i)
-    (pick (ltb (length s.frames) (frame_words * (s.depth + 1))) (stops s (Ends FrameRoom))
-    (pick (ltb (length s.regs) (t.first + t.limit + n)) (stops s (Ends RegisterRoom))
+    (pick (ltb (length s.frames) (frame_words * (s.depth + 1))) (stops s (Err FrameRoom))
+    (pick (ltb (length s.regs) (t.first + t.limit + n)) (stops s (Err RegisterRoom))
     (goes (state (pushed_frames s.frames s.depth t i) (pushed_regs s.regs t i n) (s.depth + 1)))))
-    (stops s (Ends (Trapped InvalidRegister)))))
+    (stops s (Err (Trapped InvalidRegister)))))
 
 -- ---- Ret: src is in a
 -- the value goes into the register of the frame below that the dropped record names; nothing else is written
@@ -92,14 +90,14 @@ handed p s v =
     let dst = dst_word s.frames (s.depth - 1) in
     pick (ltb dst below.limit)
     (goes (state s.frames (set s.regs (below.first + dst) v) (s.depth - 1)))
-    (stops s (Ends (Trapped InvalidRegister)))
+    (stops s (Err (Trapped InvalidRegister)))
 
 -- from the entry frame it ends the run
 unfoldable pub returned : Program → State → Top → Instr → Stepped
 returned p s t i =
     let v = get_or s.regs (t.first + i.a) 0 in
-    pick (ltb i.a t.limit) (pick (ltb 1 s.depth) (handed p s v) (stops s (Ends (Returned v))))
-    (stops s (Ends (Trapped InvalidRegister)))
+    pick (ltb i.a t.limit) (pick (ltb 1 s.depth) (handed p s v) (stops s (Err (Returned v))))
+    (stops s (Err (Trapped InvalidRegister)))
 
 unfoldable pub left : Program → ℕ → State → Top → Instr → Stepped
 left p most s t i = pick (eqb i.op Call) (called p most s t i) (returned p s t i)
@@ -138,14 +136,14 @@ stands p frames n d = ltb 0 d && (stands_at p frames n (d - 1) && (eqb d 1 || st
 
 -- past the end InvalidPc, else the step
 unfoldable pub round : Program → ℕ → State → Stepped
-round p most s = pick (is_past p s) (stops s (Ends (Trapped InvalidPc))) (step p most s)
+round p most s = pick (is_past p s) (stops s (Err (Trapped InvalidPc))) (step p most s)
 
 pub record Found : Type 0 where
-  pub answer : StepFound
+  pub answer : Option (Result ℕ Ending)
   pub frames : List ℕ
   pub regs : List ℕ
 
-abbrev pub found : StepFound → List ℕ → List ℕ → Found
+abbrev pub found : Option (Result ℕ Ending) → List ℕ → List ℕ → Found
 found answer frames regs = record { answer = answer; frames = frames; regs = regs }
 
 -- where the bytes are no image, or no frame stands, nothing is written
@@ -154,5 +152,5 @@ step_found layout bytes most s =
     let p = decode layout bytes in
     let o = round p most s in
     pick (is_fine (image_fault layout bytes) && stands p s.frames (length s.regs) s.depth)
-    (found (Took o.answer) o.frames o.regs)
-    (found NoFrame s.frames s.regs)
+    (found (Some o.answer) o.frames o.regs)
+    (found None s.frames s.regs)

@@ -4,13 +4,13 @@ ghost use Rattle.exec.specs.Config.{default_config, with_policy};
 
 use runtime::CoreAdmissionProfile;
 
-#[derive(Clone, Copy)]
+#[derive(Clone, Copy, Debug, PartialEq, Eq)]
 pub enum CoreEnginePolicy {
     DeterministicReference,
     Auto,
 }
 
-#[derive(Clone, Copy)]
+#[derive(Clone, Copy, Debug, PartialEq, Eq)]
 pub struct CoreConfig {
     pub fuel: u64,
     pub max_call_depth: u16,
@@ -19,10 +19,10 @@ pub struct CoreConfig {
     pub profile: CoreAdmissionProfile,
 }
 
-impl CoreConfig {
-    pub fn default() -> Self
-        ensures { result ≡ default_config }
-    {
+impl Default for CoreConfig {
+    ghost is_default = { λ config. config ≡ default_config };
+
+    fn default() -> Self {
         let profile = CoreAdmissionProfile::safe();
         Self {
             fuel: profile.max_fuel,
@@ -32,7 +32,9 @@ impl CoreConfig {
             profile,
         }
     }
+}
 
+impl CoreConfig {
     pub fn engine_policy(self) -> CoreEnginePolicy
         ensures { result ≡ self.engine_policy }
     {
@@ -42,13 +44,9 @@ impl CoreConfig {
     pub fn with_engine_policy(self, policy: CoreEnginePolicy) -> Self
         ensures { result ≡ with_policy self policy }
     {
-        let profile = self.profile;
         Self {
-            fuel: self.fuel,
-            max_call_depth: self.max_call_depth,
             engine_policy: policy,
-            validate_before_execute: self.validate_before_execute,
-            profile,
+            ..self
         }
     }
 }

@@ -1,19 +1,23 @@
 // Frames as the lent words hold them: records of FRAME_WORDS words, and each frame's registers after those of the frame below it.
+//
+// The two lent slices are passed beside each other. Tried: one struct of the image, both slices, the depth and its limit, with methods on
+// `&mut self` and `Ready` said once. It proves, but the compiled loop then fetches the window's address anew for each opcode that reads a
+// register: `./bench` gave 0.93 of the Rust's time for the counting loop, where this form has 0.73 and the landing before 0.86.
 ghost use Rattle.std.specs.Prelude.{◌≡◌, ◌+◌, ◌*◌, ◌-◌, ◌≤◌, ◌<◌, length, set, take, drop, replicate};
 ghost use Rattle.std.proofs.lemmas.List.Edits.{sets};
-ghost use Rattle.image.specs.Records.{form1, header_of, function_no};
-ghost use Rattle.image.specs.WellFormed.{WellFormed};
+ghost use Rattle.image.specs.Records.{form1};
 ghost use Rattle.image.specs.Program.{decode};
+ghost use Rattle.image.specs.Parts.{functions_of};
 ghost use Rattle.lent.specs.Records.{record_of, record_words};
 ghost use Rattle.exec.specs.Lent.{record_in, function_word, unit_word, top_of};
 
-use image::record::{FUNCTION_SIZE, FunctionRecord, HEADER_SIZE, function_at};
+use image::program::Image;
 use lent::FrameRecord;
 
 pub const FRAME_WORDS: usize = 4;
 
 // A frame of the machine, with as many registers as its function has.
-#[derive(Clone, Copy)]
+#[derive(Clone, Copy, Debug, PartialEq, Eq)]
 pub struct Top {
     pub function: usize,
     pub place: usize,
@@ -21,32 +25,20 @@ pub struct Top {
     pub limit: usize,
 }
 
-// The record of a function, by its number. It is read out of its own bytes, so that the compiler sees that they are all there.
-pub fn function_of(image: &[u8], k: usize) -> FunctionRecord
-    requires well_formed { WellFormed form1 image.now }
-    requires k_bound { k < (header_of image.now).functions }
-    ensures { result ≡ function_no image.now k }
-{
-    let at = HEADER_SIZE + FUNCTION_SIZE * k;
-    function_at(&image[at..at + FUNCTION_SIZE], 0)
-}
-
 // The last of d frames.
-pub fn running(image: &[u8], frames: &[u64], d: usize) -> Top
-    requires well_formed { WellFormed form1 image.now }
+pub fn running(image: Image, frames: &[u64], d: usize) -> Top
     requires le_d { 1 ≤ d }
     requires d_in_bounds { 4 * d ≤ length frames.now }
-    requires d_bound { function_word frames.now (d - 1) < (header_of image.now).functions }
-    ensures { result ≡ top_of (decode form1 image.now) frames.now d }
+    requires d_bound { function_word frames.now (d - 1) < functions_of (decode form1 image.bytes.now) }
+    ensures { result ≡ top_of (decode form1 image.entry.bytes.now) frames.now d }
 {
     let at = FRAME_WORDS * (d - 1);
     let function = frames[at] as usize;
-    let f = function_of(image, function);
     Top {
         function,
         place: frames[at + 1] as usize,
         first: frames[at + 3] as usize,
-        limit: f.regs as usize,
+        limit: image.function(function).unwrap().regs as usize,
     }
 }
 
@@ -59,7 +51,7 @@ pub fn move_to(frames: &mut [u64], d: usize, place: u64)
     frames[FRAME_WORDS * (d - 1) + 1] = place;
 }
 
-// Record k.
+// Record k. The words are the caller's, as the C interface lends them; a conversion from an array of four would first copy them into one.
 pub fn load_record(frames: &[u64], k: usize) -> FrameRecord
     requires { 4 * (k + 1) ≤ length frames.now }
     ensures { result ≡ record_in frames.now k }
@@ -104,10 +96,8 @@ pub fn copy(registers: &mut [u64], src: usize, dst: usize, n: usize)
     requires n_in_bounds { dst + n ≤ length registers.old }
     ensures { registers.new ≡ sets registers.old dst (take n (drop src registers.old)) }
 {
-    let mut i = 0;
-    while i < n {
-        registers[dst + i] = registers[src + i];
-        i += 1;
+    if 0 < n {
+        registers.copy_within(src..src + n, dst);
     }
 }
 
@@ -116,9 +106,5 @@ pub fn clear(registers: &mut [u64], dst: usize, n: usize)
     requires { dst + n ≤ length registers.old }
     ensures { registers.new ≡ sets registers.old dst (replicate n unit_word) }
 {
-    let mut i = 0;
-    while i < n {
-        registers[dst + i] = 0;
-        i += 1;
-    }
+    registers[dst..dst + n].fill(0);
 }

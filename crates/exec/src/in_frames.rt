@@ -3,36 +3,32 @@
 // Three functions here have the records or pass them on, and they are thin. What a run does is done by functions that take records by
 // value: a turn reads the running frame's record and the one below it, and writes the running frame's and the one above it, so it is
 // the word form's own turn on a window of three records.
-ghost use Rattle.std.specs.Prelude.{◌≡◌, ◌+◌, ◌*◌, ◌-◌, ◌≤◌, eqb, length, take, replicate};
+ghost use Rattle.std.specs.Prelude.{◌≡◌, ◌*◌, ◌-◌, ◌≤◌, eqb, length, take, replicate, Ok};
 ghost use Rattle.basis.specs.Choice.{pick};
 ghost use Rattle.image.specs.Records.{form1};
-ghost use Rattle.image.specs.WellFormed.{WellFormed};
 ghost use Rattle.image.specs.Program.{decode};
 ghost use Rattle.lent.specs.Records.{words_of};
 ghost use Rattle.exec.specs.Price.{unit};
 ghost use Rattle.exec.specs.Lent.{state};
+ghost use Rattle.exec.specs.Run.{final};
 ghost use Rattle.exec.specs.Burst.{turned, turn};
 ghost use Rattle.exec.specs.Execute.{outcome_numbers, executed, execution};
-ghost use Rattle.exec.specs.InFrames.{over_with, on_with, shown, window_of, seen, Stands, Fit, Enters, Begins, Under, Advances, Onward, Finishes};
+ghost use Rattle.exec.specs.InFrames.{shown, window_of, seen, comes_to, Stands, Enters, Under, Advances, Onward};
 
 use crate::config::CoreConfig;
 use crate::frame::FRAME_WORDS;
-use crate::{CoreOutcome, Step, frame, make, outcome_of, turn};
-use image::{ImageCheck, check_image};
+use crate::{CoreOutcome, Ended, frame, make, outcome_of, turn};
+use image::program::Image;
 use lent::{FrameRecord, put_record, record_at};
 
 // The words of three records: all that a turn touches.
 const WINDOW_WORDS: usize = 12;
 
-// A run over records. The record of the running frame is held here, and stored among the lent ones at the end of each of its turns. The
-// outcome counts once the machine runs no more. `below` is the index of the record under it, so that whoever reads that record has no
-// sum to do.
-#[derive(Clone, Copy)]
+// A run over records that goes on. The record of the running frame is held here, and stored among the lent ones at the end of each of
+// its turns.
+#[derive(Clone, Copy, Debug, PartialEq, Eq)]
 struct Machine {
-    running: bool,
-    outcome: CoreOutcome,
     depth: usize,
-    below: usize,
     records: usize,
     most: usize,
     fuel: u64,
@@ -40,34 +36,12 @@ struct Machine {
     top: FrameRecord,
 }
 
-// The machine after a turn, and the record to store.
-#[derive(Clone, Copy)]
+// What comes after a turn, and the record to store.
+#[derive(Clone, Copy, Debug, PartialEq, Eq)]
 struct Moved {
-    machine: Machine,
+    next: Result<Machine, Ended>,
     at: usize,
     stored: FrameRecord,
-}
-
-// It has ended.
-fn over(outcome: CoreOutcome) -> Machine
-    ensures { result ≡ over_with outcome }
-{
-    Machine {
-        running: false,
-        outcome,
-        depth: 0,
-        below: 0,
-        records: 0,
-        most: 0,
-        fuel: 0,
-        left: 0,
-        top: FrameRecord {
-            function: 0,
-            place: 0,
-            dst: 0,
-            first: 0,
-        },
-    }
 }
 
 // One record to put the entry frame's in, or none.
@@ -79,44 +53,28 @@ fn first_record(records: usize) -> usize
 }
 
 // The entry frame, of a well-formed image, by the word form's own function on the one record that it writes.
-fn enter(image: &[u8], most: usize, fuel: u64, records: usize, registers: &mut [u64]) -> Machine
-    requires { WellFormed form1 image.now }
-    ensures { Enters image.now most fuel records registers.old result registers.new }
+fn enter(
+    image: Image,
+    most: usize,
+    fuel: u64,
+    records: usize,
+    registers: &mut [u64],
+) -> Result<Machine, Ended>
+    ensures { Enters image.entry.bytes.now most fuel records registers.old result registers.new }
 {
     let mut words = [0; FRAME_WORDS];
     let n = first_record(records);
     match make(image, &mut words[..FRAME_WORDS * n], registers) {
-        Step::Go(_) => Machine {
-            running: true,
-            outcome: CoreOutcome::FrameRoom(0),
+        Ok(_) => Ok(Machine {
             depth: 1,
-            below: 0,
             records,
             most,
             fuel,
             left: fuel,
             top: frame::load_record(&words, 0),
-        },
-        Step::Ends(e) => over(outcome_of(e, 0)),
+        }),
+        Err(what) => Err(Ended { what, used: 0 }),
     }
-}
-
-fn begin(image: &[u8], config: CoreConfig, records: usize, registers: &mut [u64]) -> Machine
-    ensures { Begins image.now config records registers.old result registers.new }
-{
-    let fuel = config.fuel;
-    let most = config.max_call_depth as usize;
-    match check_image(image) {
-        ImageCheck::Fault(fault) => over(CoreOutcome::Image(fault)),
-        ImageCheck::Fine => enter(image, most, fuel, records, registers),
-    }
-}
-
-// a - b, or 0.
-fn less(a: usize, b: usize) -> usize
-    ensures { result ≡ a - b }
-{
-    if a < b { 0 } else { a - b }
 }
 
 // How many frames of that many a window shows.
@@ -136,51 +94,23 @@ fn window(depth: usize, records: usize) -> usize
     if depth < records { k + 1 } else { k }
 }
 
-// How many frames there are once the window shows j of them, and not k: no more than there are records.
-fn depth_with(depth: usize, k: usize, j: usize, records: usize) -> usize
-    requires { (k ≤ depth) × (depth - k + j ≤ records) }
-    ensures { result ≡ depth - k + j }
-{
-    depth - k + j
-}
-
-// The machine with as many frames, of which this one runs.
-fn on_with(m: Machine, depth: usize, left: u64, top: FrameRecord) -> Machine
-    ensures { result ≡ on_with m depth left top }
-{
-    let outcome = m.outcome;
-    Machine {
-        running: true,
-        outcome,
-        depth,
-        below: less(depth, 2),
-        records: m.records,
-        most: m.most,
-        fuel: m.fuel,
-        left,
-        top,
-    }
-}
-
 // A turn of the running frame in a window of the records.
 fn turn_in_window(
-    image: &[u8],
+    image: Image,
     words: &mut [u64],
     registers: &mut [u64],
     below: FrameRecord,
     m: Machine,
 ) -> turn::After
     requires words_value { words.old ≡ replicate 12 0 }
-    requires under { Under image.now m (length registers.old) below }
-    ensures { turned result.left result.step (take (4 * window_of m.depth m.records) words.new) registers.new ≡ turn (decode form1 image.now) unit (m.most - (m.depth - shown m.depth)) m.left (state (words_of (seen m below)) registers.old (shown m.depth)) }
+    requires under { Under image.bytes.now m (length registers.old) below }
+    ensures { turned result.left result.step (take (4 * window_of m.depth m.records) words.new) registers.new ≡ turn (decode form1 image.entry.bytes.now) unit (m.most - (m.depth - shown m.depth)) m.left (state (words_of (seen m below)) registers.old (shown m.depth)) }
 {
-    let depth = m.depth;
-    let top = m.top;
-    let k = shown(depth);
-    let most = less(m.most, depth - k);
-    let n = window(depth, m.records);
+    let k = shown(m.depth);
+    let n = window(m.depth, m.records);
+    let most = m.most.saturating_sub(m.depth - k);
     frame::store_record(words, 0, below);
-    frame::store_record(words, k - 1, top);
+    frame::store_record(words, k - 1, m.top);
     turn::turn(
         image,
         &mut words[..FRAME_WORDS * n],
@@ -192,61 +122,64 @@ fn turn_in_window(
 }
 
 // One turn, with the record below the running frame's, or any where there is none.
-fn advance(image: &[u8], registers: &mut [u64], below: FrameRecord, m: Machine) -> Moved
-    requires { Under image.now m (length registers.old) below }
-    ensures { Advances image.now m registers.old below result registers.new }
+fn advance(image: Image, registers: &mut [u64], below: FrameRecord, m: Machine) -> Moved
+    requires { Under image.bytes.now m (length registers.old) below }
+    ensures { Advances image.entry.bytes.now m registers.old below result registers.new }
 {
     let mut words = [0; WINDOW_WORDS];
     let t = turn_in_window(image, &mut words, registers, below, m);
-    let depth = m.depth;
-    let fuel = m.fuel;
-    let left = t.left;
-    let at = depth - 1;
-    let k = shown(depth);
+    let k = shown(m.depth);
     let stored = frame::load_record(&words, k - 1);
-    let step = t.step;
-    match step {
-        Step::Go(j) => {
-            let grown = depth_with(depth, k, j, m.records);
-            let top = frame::load_record(&words, j - 1);
-            let machine = on_with(m, grown, left, top);
-            Moved {
-                machine,
-                at,
-                stored,
-            }
-        }
-        Step::Ends(e) => {
-            let machine = over(outcome_of(e, fuel - left));
-            Moved {
-                machine,
-                at,
-                stored,
-            }
-        }
+    let next = match t.step {
+        Ok(j) => Ok(Machine {
+            depth: m.depth - k + j,
+            left: t.left,
+            top: frame::load_record(&words, j - 1),
+            ..m
+        }),
+        Err(what) => Err(Ended {
+            what,
+            used: m.fuel - t.left,
+        }),
+    };
+    Moved {
+        next,
+        at: m.depth - 1,
+        stored,
     }
 }
 
 // The same over the lent records.
-fn go_on(image: &[u8], frames: &mut [FrameRecord], registers: &mut [u64], m: Machine) -> Machine
-    requires { Stands image.now m frames.old (length registers.old) }
-    ensures { Onward image.now m frames.old registers.old result frames.new registers.new }
+fn go_on(
+    image: Image,
+    frames: &mut [FrameRecord],
+    registers: &mut [u64],
+    m: Machine,
+) -> Result<Machine, Ended>
+    requires { Stands image.bytes.now m frames.old (length registers.old) }
+    ensures { Onward image.entry.bytes.now m frames.old registers.old result frames.new registers.new }
 {
-    let below = record_at(frames, m.below);
+    let below = record_at(frames, m.depth.saturating_sub(2));
     let t = advance(image, registers, below, m);
     put_record(frames, t.at, t.stored);
-    t.machine
+    t.next
 }
 
-fn run(image: &[u8], frames: &mut [FrameRecord], registers: &mut [u64], m: Machine) -> Machine
-    requires { Fit image.now m frames.old (length registers.old) }
-    ensures { Finishes image.now m frames.old registers.old result frames.new registers.new }
+fn run(image: Image, frames: &mut [FrameRecord], registers: &mut [u64], m: Machine) -> Ended
+    requires { Stands image.bytes.now m frames.old (length registers.old) }
+    ensures { final result.what result.used (words_of frames.new) registers.new ≡ comes_to (decode form1 image.entry.bytes.now) (Ok m) frames.old registers.old }
 {
-    let mut s = m;
-    while s.running {
-        s = go_on(image, frames, registers, s);
+    let mut m = m;
+    loop {
+        match go_on(image, frames, registers, m) {
+            Ok(next) => {
+                m = next;
+            }
+            Err(e) => {
+                return e;
+            }
+        }
     }
-    s
 }
 
 pub fn execute_outcome_in_frames(
@@ -257,7 +190,10 @@ pub fn execute_outcome_in_frames(
 ) -> CoreOutcome
     ensures { executed (outcome_numbers result) (words_of frames.new) registers.new ≡ execution form1 unit image.now config.max_call_depth config.fuel (words_of frames.old) registers.old }
 {
-    let m = begin(image, config, frames.len(), registers);
-    let s = run(image, frames, registers, m);
-    s.outcome
+    let image = Image::of(image)?;
+    let most = config.max_call_depth as usize;
+    match enter(image, most, config.fuel, frames.len(), registers) {
+        Ok(m) => outcome_of(run(image, frames, registers, m)),
+        Err(e) => outcome_of(e),
+    }
 }

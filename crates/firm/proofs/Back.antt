@@ -1,7 +1,7 @@
 -- The way back from the paper's numbers to outcomes: one outcome only has each list of them. Assumes nothing.
 use Prim.Native.Nat.{ℕ, ◌+◌, ◌-◌}
 use mathlib.Core.Path.{◌≡◌, refl, sym, ap, ◌∙◌}
-use mathlib.Core.Bool.{Bool}
+use mathlib.Core.Bool.{Bool, false}
 use mathlib.Core.List.{List}
 use native.Mathlib.Omega.{arith}
 use lib.Dec.{eqb}
@@ -18,12 +18,12 @@ use Rattle.value.specs.Result.{status_word}
 use Rattle.value.proofs.Words as words
 use Rattle.image.specs.declared.ImageFault.TheVariants.{Short, Form, Layout, FunctionTable, Instruction}
 use Rattle.image.proofs.Unique.{fault_of}
-use Rattle.exec.specs.declared.CoreOutcome.{CoreOutcome}
-use Rattle.exec.specs.declared.CoreOutcome.TheVariants.{Done, Image, FrameRoom, RegisterRoom}
-use Rattle.exec.specs.declared.CoreExecution.{CoreExecution}
-use Rattle.exec.specs.declared.CoreExecution.TheVariants as settling
+use Rattle.exec.specs.declared.Refusal.{Refusal}
+use Rattle.exec.specs.declared.Refusal.TheVariants.{Image, FrameRoom, RegisterRoom}
+use Rattle.runtime.specs.declared.CoreTrap.{CoreTrap}
+use Rattle.std.specs.Prelude.{Result, Ok, Err}
 use Rattle.firm.specs.Firm.{HeldResult, HeldOutcome, HeldExecution}
-use Rattle.exec.specs.Execute.{outcome_numbers, value_in, execution_numbers}
+use Rattle.exec.specs.Execute.{refusal_numbers, outcome_numbers, value_in, execution_numbers}
 
 -- ---- traps, statuses, results
 status_at : ℕ → CoreStatus
@@ -52,47 +52,57 @@ result_at ns =
       fuel_used = get_or ns 4 0;
     }
 
-outcome_at : List ℕ → CoreOutcome
-outcome_at ns =
+-- a refusal by its number and what it answers with
+refusal_at : List ℕ → Refusal
+refusal_at ns =
     let is : ℕ → Bool = λ k. eqb (get_or ns 0 0) k in
-    pick (is 0) (Done (result_at ns)) (pick (is 6) (FrameRoom (get_or ns 1 0)) (pick (is 7) (RegisterRoom (get_or ns 1 0)) (Image (fault_of ns))))
+    pick (is 6) (FrameRoom (get_or ns 1 0)) (pick (is 7) (RegisterRoom (get_or ns 1 0)) (Image (fault_of ns)))
+
+outcome_at : List ℕ → Result CoreResult Refusal
+outcome_at ns = pick (eqb (get_or ns 0 0) 0) (Ok (result_at ns)) (Err (refusal_at ns))
 
 value_back : (r : CoreResult) → HeldResult r → value_in (value_at (word_of r.return_value)) ≡ r.return_value
 unfolding value_in
 value_back r h = rw (words.found r.return_value h)
 
-outcome_back : (o : CoreOutcome) → HeldOutcome o → outcome_at (outcome_numbers o) ≡ o
-unfolding outcome_at result_at fault_of word_of
-outcome_back (Done r) h = rw (status_back r.status, value_back r h)
-outcome_back (Image Short) h = refl
-outcome_back (Image Form) h = refl
-outcome_back (Image Layout) h = refl
-outcome_back (Image (FunctionTable k)) h = refl
-outcome_back (Image (Instruction k)) h = refl
-outcome_back (FrameRoom used) h = refl
-outcome_back (RegisterRoom used) h = refl
+refusal_back : (r : Refusal) → refusal_at (refusal_numbers r) ≡ r
+unfolding refusal_at fault_of
+refusal_back (Image Short) = refl
+refusal_back (Image Form) = refl
+refusal_back (Image Layout) = refl
+refusal_back (Image (FunctionTable k)) = refl
+refusal_back (Image (Instruction k)) = refl
+refusal_back (FrameRoom used) = refl
+refusal_back (RegisterRoom used) = refl
 
-pub outcome_unique : (a b : CoreOutcome) → HeldOutcome a → HeldOutcome b → outcome_numbers a ≡ outcome_numbers b → a ≡ b
+-- no refusal has the number 0
+refusal_number : (r : Refusal) → eqb (get_or (refusal_numbers r) 0 0) 0 ≡ false
+refusal_number (Image Short) = refl
+refusal_number (Image Form) = refl
+refusal_number (Image Layout) = refl
+refusal_number (Image (FunctionTable k)) = refl
+refusal_number (Image (Instruction k)) = refl
+refusal_number (FrameRoom used) = refl
+refusal_number (RegisterRoom used) = refl
+
+outcome_back : (o : Result CoreResult Refusal) → HeldOutcome o → outcome_at (outcome_numbers o) ≡ o
+unfolding outcome_at result_at word_of
+outcome_back (Ok r) h = rw (status_back r.status, value_back r h)
+outcome_back (Err r) h = rw (refusal_number r) (ap Err (refusal_back r))
+
+pub outcome_unique : (a b : Result CoreResult Refusal) → HeldOutcome a → HeldOutcome b → outcome_numbers a ≡ outcome_numbers b → a ≡ b
 outcome_unique a b h k e = sym (outcome_back a h) ∙ ap outcome_at e ∙ outcome_back b k
 
 -- `execute` the same; a trap has two numbers, a result five
-execution_at : List ℕ → CoreExecution
+execution_at : List ℕ → Result (Result CoreResult CoreTrap) Refusal
 execution_at ns =
-    let is : ℕ → Bool = λ k. eqb (get_or ns 0 0) k in
-    pick (is 0) (pick (eqb (length ns) 2) (settling.Trap (trap_at (get_or ns 1 0 - 1))) (settling.Done (result_at ns)))
-    (pick (is 6) (settling.FrameRoom (get_or ns 1 0)) (pick (is 7) (settling.RegisterRoom (get_or ns 1 0)) (settling.Image (fault_of ns))))
+    pick (eqb (get_or ns 0 0) 0) (Ok (pick (eqb (length ns) 2) (Err (trap_at (get_or ns 1 0 - 1))) (Ok (result_at ns)))) (Err (refusal_at ns))
 
-execution_back : (o : CoreExecution) → HeldExecution o → execution_at (execution_numbers o) ≡ o
-unfolding execution_at result_at fault_of word_of
-execution_back (settling.Done r) h = rw (status_back r.status, value_back r h)
-execution_back (settling.Trap t) h = let e : 1 + trap_code t - 1 ≡ trap_code t = omega arith in rw e (ap settling.Trap (trap_back t))
-execution_back (settling.Image Short) h = refl
-execution_back (settling.Image Form) h = refl
-execution_back (settling.Image Layout) h = refl
-execution_back (settling.Image (FunctionTable k)) h = refl
-execution_back (settling.Image (Instruction k)) h = refl
-execution_back (settling.FrameRoom used) h = refl
-execution_back (settling.RegisterRoom used) h = refl
+execution_back : (o : Result (Result CoreResult CoreTrap) Refusal) → HeldExecution o → execution_at (execution_numbers o) ≡ o
+unfolding execution_at result_at word_of
+execution_back (Ok (Ok r)) h = rw (status_back r.status, value_back r h)
+execution_back (Ok (Err t)) h = let e : 1 + trap_code t - 1 ≡ trap_code t = omega arith in rw e (ap (λ u. Ok (Err u)) (trap_back t))
+execution_back (Err r) h = rw (refusal_number r) (ap Err (refusal_back r))
 
-pub execution_unique : (a b : CoreExecution) → HeldExecution a → HeldExecution b → execution_numbers a ≡ execution_numbers b → a ≡ b
+pub execution_unique : (a b : Result (Result CoreResult CoreTrap) Refusal) → HeldExecution a → HeldExecution b → execution_numbers a ≡ execution_numbers b → a ≡ b
 execution_unique a b h k e = sym (execution_back a h) ∙ ap execution_at e ∙ execution_back b k

@@ -19,7 +19,7 @@ abbrev pub «tells·runtime::FuelMeter::consume» : (κs : Lfts 1) (a : Args con
     (charge_numbers r ≡ charge_fault a.0.now.remaining a.1.0) × (e.0.now.remaining ≡ left a.0.now.remaining a.1.0)
 
 abbrev pub tells·lent::record_at : (κs : Lfts 1) (a : Args record-at.signature κs) → Res record-at.signature κs → AtExit record-at.ended κs → Type 0
-tells·lent::record_at κs a r e = (r ≡ record_at a.0.now a.1.0) × (e.0.now ≡ a.0.now)
+tells·lent::record_at κs a r e = r ≡ record_at a.0.now a.1.0
 
 abbrev pub tells·lent::put_record : (κs : Lfts 1) (a : Args put_record.signature κs) → Res put_record.signature κs → AtExit put_record.ended κs → Type 0
 tells·lent::put_record κs a r e = e.0.now ≡ set a.0.now a.1.0 a.1.1.0

@@ -8,13 +8,22 @@ use native.Mathlib.Numerals.{add-one}
 use borrow.Author.Tests.{eq-eqb, ne_eqb, le-leb, lt-leb}
 use Rattle.basis.specs.Answers.{is_fine, or_else, first_of}
 use Rattle.basis.proofs.First.{first_more, first_here}
+use Rattle.basis.proofs.Says.{tests_both, tests_eq}
 use Rattle.instr.specs.declared.Instr.{Instr}
-use Rattle.image.specs.Records.{header_of, function_no, RecordLayout, instr_place, instr_no, start_of}
+use Rattle.image.specs.Records.{header_of, function_no, RecordLayout, function_place, instr_place, instr_no, start_of}
 use Rattle.image.specs.Image.{fault_numbers, layout_holds, row_fault, table_fault, record_holds, record_fault, image_fault}
 use Rattle.image.specs.declared.record.Header.{Header}
 use Rattle.image.specs.declared.record.FunctionRecord.{FunctionRecord}
 use Rattle.image.specs.declared.ImageFault.{ImageFault}
 use Rattle.image.specs.declared.ImageFault.TheVariants.{Short, Form, Layout, FunctionTable, Instruction}
+
+-- where the layout holds, the records end where the bytes do
+pub layout_ends : (L : RecordLayout) (h : Header) (len : ℕ) → true ≡ layout_holds L h len → len ≡ instr_place L h.functions h.instructions
+unfolding layout_holds
+layout_ends L h len e =
+    let end = instr_place L h.functions h.instructions in
+    let t = tests_both _ _ (tests_eq h.table (function_place 0)) (tests_both _ _ (tests_eq h.code (function_place h.functions)) (tests_both _ _ (tests_eq h.total end) (tests_eq len end))) in
+    (t.0 (sym e)).1.1.1
 
 -- ---- a turn of the loop over instructions
 module _ (instr : ℕ → Instr) (k : ℕ) (i : Instr) (e : i ≡ instr k) (none : first_of (record_fault instr) k ≡ []) where
@@ -26,15 +35,19 @@ module _ (instr : ℕ → Instr) (k : ℕ) (i : Instr) (e : i ≡ instr k) (none
   unfolding record_fault
   record_wrong n l h = sym (first_here (record_fault instr) k n 5 (k ∷ []) l none (rw (← e, h)))
 
--- ---- a turn of the loop over functions
+-- ---- the loop over functions: its start, and a turn
+pub start_none : (s : List ℕ) → 0 ≡ start_of s 0
+unfolding start_of
+start_none s = refl
+
 module _ (s : List ℕ) (k start : ℕ) (f : FunctionRecord) (e : f ≡ function_no s k) (at : start ≡ start_of s k) (none : first_of (row_fault s) k ≡ []) where
   pub row_right : f.zero ≡ 0 → f.first ≡ start → first_of (row_fault s) (k + 1) ≡ []
   unfolding row_fault
   row_right z j = first_more (row_fault s) k none (rw (← e, ← at, eq-eqb _ _ z, eq-eqb _ _ j))
 
-  pub start_next : f.first ≡ start → f.first + f.count ≡ start_of s (k + 1)
+  pub start_next : f.first ≡ start → start + f.count ≡ start_of s (k + 1)
   unfolding start_of
-  start_next j = rw (add-one, ← e, j, at)
+  start_next j = rw (add-one, ← e, at)
 
   pub row_spare : (n total : ℕ) → k < n → (f.zero ≡ 0 → ⊥) → 4 ∷ k ∷ [] ≡ table_fault s n total
   unfolding table_fault row_fault

@@ -3,8 +3,10 @@
 use Prim.Native.Nat.{ℕ, ◌+◌, ◌≤◌, ◌<◌}
 use mathlib.Core.Bool.{Bool, true, false, ◌&&◌}
 use mathlib.Core.Path.{◌≡◌, ◌∙◌}
-use lib.Dec.{T, eqb, leb, eqb→eq, leb→le}
+use mathlib.Core.List.{List, [], ◌∷◌}
+use lib.Dec.{T, eqb, ltb, eqb→eq, ltb→lt}
 use native.Mathlib.Omega.{arith}
+use native.Mathlib.Decide.{dec_le}
 use borrow.Author.Tests.{lt-ltb, le-ltb}
 use Rattle.basis.proofs.Ranges.{Passes, passes, both_true}
 use Rattle.instr.specs.declared.Instr.{Instr}
@@ -27,37 +29,70 @@ fields small a b c w = record { small = small; a = a; b = b; c = c; w = w }
 together : {s a b c w s' a' b' c' w' : Use} → s ≡ s' → a ≡ a' → b ≡ b' → c ≡ c' → w ≡ w' → fields s a b c w ≡ fields s' a' b' c' w'
 together e0 e1 e2 e3 e4 = cc
 
+-- ---- the numbers of an arm: runs of numbers one after the other, each by its first and how many there are
+pub record Run : Type 0 where
+  pub first : ℕ
+  pub many : ℕ
+
+abbrev pub span : ℕ → ℕ → Run
+span lo n = record { first = lo; many = n }
+
+-- past the end of one run a number lies in the next
+abbrev Onward : ℕ → Run → List Run → Type 0
+Onward op r [] = op < r.first + r.many
+Onward op r (q ∷ rs) = (r.first + r.many ≤ op → q.first ≤ op) × Onward op q rs
+
+abbrev pub Among : ℕ → Run → List Run → Type 0
+Among op r rs = (r.first ≤ op) × Onward op r rs
+
+-- a test computed at each of the numbers
+abbrev pub AllPass : (ℕ → Bool) → Run → List Run → Bool
+AllPass test r [] = Passes test r.first r.many
+AllPass test r (q ∷ rs) = Passes test r.first r.many && AllPass test q rs
+
+pub by_end : {A : Type 0} (a b : ℕ) → Dec (a ≤ b) → (b < a → A) → (a ≤ b → A) → A
+by_end a b (yes h) f g = g h
+by_end a b (no h) f g = f (omega arith)
+
+-- one that passes at each passes at any one of them
+among : (test : ℕ → Bool) (op : ℕ) (r : Run) (rs : List Run) → T (AllPass test r rs) → r.first ≤ op → Onward op r rs → T (test op)
+among test op r [] t l o = passes test r.first r.many op t l o
+among test op r (q ∷ rs) t l o =
+    let h = both_true (Passes test r.first r.many) _ t in
+    by_end (r.first + r.many) op (dec_le (r.first + r.many) op) (λ e. passes test r.first r.many op h.0 l e)
+    (λ e. among test op q rs h.1 (o.0 e) o.1)
+
 -- ---- how far fields may go
--- the opcode's fields may go as far as this
+-- this is an opcode, and its fields may go as far as this
 unfoldable pub reach : ℕ → ℕ → ℕ → ℕ → ℕ → ℕ → Bool
 reach small a b c w op =
     let u = fields_of op in
-    eqb (most u.small) small && (eqb (most u.a) a && (eqb (most u.b) b && (eqb (most u.c) c && eqb (most u.w) w)))
+    ltb op 56 && (eqb (most u.small) small && (eqb (most u.a) a && (eqb (most u.b) b && (eqb (most u.c) c && eqb (most u.w) w))))
 
-module _ (i : Instr) (op : ℕ) (e : op ≡ i.op) where
-  reached : (small a b c w : ℕ) → T (reach small a b c w op) → op < 56 → within i small a b c w ≡ record_holds i
+module _ (i : Instr) where
+  reached : (small a b c w : ℕ) → T (reach small a b c w i.op) → within i small a b c w ≡ record_holds i
   unfolding reach record_holds
-  reached small a b c w t l =
-      let t0 = both_true (eqb (most (fields_of op).small) small) _ t in
-      let t1 = both_true (eqb (most (fields_of op).a) a) _ t0.1 in
-      let t2 = both_true (eqb (most (fields_of op).b) b) _ t1.1 in
-      let t3 = both_true (eqb (most (fields_of op).c) c) _ t2.1 in
-      let e0 : most (fields_of op).small ≡ small = eqb→eq _ _ t0.0 in
-      let e1 : most (fields_of op).a ≡ a = eqb→eq _ _ t1.0 in
-      let e2 : most (fields_of op).b ≡ b = eqb→eq _ _ t2.0 in
-      let e3 : most (fields_of op).c ≡ c = eqb→eq _ _ t3.0 in
-      let e4 : most (fields_of op).w ≡ w = eqb→eq _ _ t3.1 in
-      rw (← e, lt-ltb op 56 l, e0, e1, e2, e3, e4)
+  reached small a b c w t =
+      let u = fields_of i.op in
+      let t0 = both_true (ltb i.op 56) _ t in
+      let t1 = both_true (eqb (most u.small) small) _ t0.1 in
+      let t2 = both_true (eqb (most u.a) a) _ t1.1 in
+      let t3 = both_true (eqb (most u.b) b) _ t2.1 in
+      let t4 = both_true (eqb (most u.c) c) _ t3.1 in
+      let e0 : most u.small ≡ small = eqb→eq _ _ t1.0 in
+      let e1 : most u.a ≡ a = eqb→eq _ _ t2.0 in
+      let e2 : most u.b ≡ b = eqb→eq _ _ t3.0 in
+      let e3 : most u.c ≡ c = eqb→eq _ _ t4.0 in
+      let e4 : most u.w ≡ w = eqb→eq _ _ t4.1 in
+      rw (lt-ltb i.op 56 (ltb→lt _ _ t0.0), e0, e1, e2, e3, e4)
 
-  -- n opcodes from lo on, of which one was held to these limits
-  pub run : (lo n small a b c w : ℕ) (v : Bool) → v ≡ within i small a b c w → T (Passes (reach small a b c w) lo n) → T (leb (lo + n) 56) → lo ≤ op → op < lo + n → v ≡ record_holds i
-  run lo n small a b c w v h t u p q =
-      let m : lo + n ≤ 56 = leb→le (lo + n) 56 u in
-      h ∙ reached small a b c w (passes (reach small a b c w) lo n op t p q) (omega arith)
+  -- the opcodes of an arm, of which one was held to these limits
+  pub run : (r : Run) (rs : List Run) (small a b c w : ℕ) (v : Bool) → v ≡ within i small a b c w → T (AllPass (reach small a b c w) r rs) → Among i.op r rs → v ≡ record_holds i
+  run r rs small a b c w v h t o = h ∙ reached small a b c w (among (reach small a b c w) i.op r rs t o.0 o.1)
 
-  pub beyond : 56 ≤ op → false ≡ record_holds i
+  pub beyond : 56 ≤ i.op → false ≡ record_holds i
   unfolding record_holds
-  beyond h = rw (← e, le-ltb op 56 h)
+  beyond h = rw (le-ltb i.op 56 h)
 
 -- ---- the same for the uses of the fields
 abbrev same : Use → Use → Bool
@@ -87,15 +122,11 @@ taken u op t =
     let e4 : (fields_of op).w ≡ u.w = same_is _ _ t3.1 in
     together e0 e1 e2 e3 e4
 
--- n opcodes from lo on take one form
-pub form_run : (u : Fields) (lo n op : ℕ) → T (Passes (takes u) lo n) → lo ≤ op → op < lo + n → fields_of op ≡ u
-form_run u lo n op t p q = taken u op (passes (takes u) lo n op t p q)
+-- the opcodes of an arm take one form
+pub form_run : (u : Fields) (r : Run) (rs : List Run) (op : ℕ) → T (AllPass (takes u) r rs) → Among op r rs → fields_of op ≡ u
+form_run u r rs op t o = taken u op (among (takes u) op r rs t o.0 o.1)
 
 -- what is no opcode takes none
 pub no_form : (op : ℕ) → 56 ≤ op → fields_of op ≡ bare
 unfolding fields_of forms
 no_form op h = get_or-eq_default forms bare h
-
--- past a number that is ruled out
-pub above : (n op : ℕ) → n ≤ op → (op ≡ n → ⊥) → n < op
-above n op p h = omega arith

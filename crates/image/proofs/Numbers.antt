@@ -8,7 +8,8 @@ use Rattle.instr.specs.declared.Instr.{Instr}
 use Rattle.image.specs.Records.{header_of, function_no, RecordLayout, form1, instr_place, instr_no, form1_instr}
 use Rattle.image.specs.Program.{Function, decode, instr_in}
 use Rattle.image.specs.declared.record.FunctionRecord.{FunctionRecord}
-use Rattle.image.proofs.Parts.{functions_length, function_in_lem, function_out, regs_is, code_length, code_at}
+use Rattle.image.specs.WellFormed.{WellFormed}
+use Rattle.image.proofs.Parts.{functions_length, function_in_lem, function_out, regs_is, code_length, code_at, inside}
 use Rattle.image.specs.Parts.{functions_of, regs_of, length_of, code_of}
 
 module _ (L : RecordLayout) (s : List ℕ) (k : ℕ) where
@@ -46,3 +47,10 @@ fetched s k functions f j i e l h b a =
     let q : k < (header_of s).functions = omega arith in
     let c : j < (function_no s k).count = rw (← h) b in
     a ∙ (placed s functions f.first j e ∙ (ap (λ (g : FunctionRecord). instr_no form1 s (g.first + j)) h ∙ sym (code_in form1 s k q j c)))
+
+-- in a well-formed image the records of a function's instructions lie among the bytes
+pub code_room : (s : List ℕ) (W : WellFormed form1 s) (k : ℕ) (l : k < (header_of s).functions) (f : FunctionRecord) (h : f ≡ function_no s k) (code j : ℕ) → code ≡ instr_place form1 (header_of s).functions f.first → j < f.count → code + 12 * j + 12 ≤ length s
+code_room s W k l f h code j c b =
+    let n : (function_no s k).first + (function_no s k).count ≤ (header_of s).instructions = inside form1 s W k l in
+    let m : f.first + f.count ≤ (header_of s).instructions = rw h n in
+    omega (arith, W.size)

@@ -7,7 +7,7 @@ use lib.Seq.{get_or-take, get_or-drop}
 use native.Mathlib.Omega.{arith}
 use native.Mathlib.Nat.{add-zero}
 use Rattle.basis.specs.Bytes.{byte_at, half_at, word_at}
-use Rattle.image.specs.Records.{function_at, form1_instr}
+use Rattle.image.specs.Records.{header_of, function_at, form1_instr}
 
 -- the bytes from lo up to hi, as code lends them
 abbrev pub slice : List ℕ → ℕ → ℕ → List ℕ
@@ -29,6 +29,19 @@ module _ (s : List ℕ) (at n : ℕ) where
   word_in i h =
       let e : at + (i + 2) ≡ at + i + 2 = omega arith in
       rw (half_in i (omega arith), half_in (i + 2) (omega arith), e)
+
+pub header_in_slice : (s : List ℕ) → header_of (slice s 0 24) ≡ header_of s
+unfolding header_of
+header_in_slice s =
+    rw (
+      half_in s 0 24 0 (omega arith),
+      half_in s 0 24 2 (omega arith),
+      word_in s 0 24 4 (omega arith),
+      word_in s 0 24 8 (omega arith),
+      word_in s 0 24 12 (omega arith),
+      word_in s 0 24 16 (omega arith),
+      word_in s 0 24 20 (omega arith),
+    )
 
 pub function_in_slice : (s : List ℕ) (at : ℕ) → function_at (slice s at (at + 16)) 0 ≡ function_at s at
 unfolding function_at

@@ -1,5 +1,5 @@
 -- The first fault of an image, in the order: length, form, layout, all functions, all instructions.
-use Rattle.std.specs.Prelude.{ℕ, Bool, ◌&&◌, List, [], ◌∷◌, length, eqb, leb, ltb}
+use Rattle.std.specs.Prelude.{ℕ, Bool, ◌&&◌, List, [], ◌∷◌, length, eqb, leb, ltb, Result, Ok, Err}
 use Rattle.basis.specs.Answers.{demand, or_else, first_of}
 use Rattle.instr.specs.declared.Instr.{Instr}
 use Rattle.image.specs.Fields.{most, opcodes, fields_of}
@@ -7,8 +7,6 @@ use Rattle.image.specs.Records.{header_size, header_of, function_no, start_of, R
 use Rattle.image.specs.declared.record.Header.{Header}
 use Rattle.image.specs.declared.ImageFault.{ImageFault}
 use Rattle.image.specs.declared.ImageFault.TheVariants.{Short, Form, Layout, FunctionTable, Instruction}
-use Rattle.image.specs.declared.ImageCheck.{ImageCheck}
-use Rattle.image.specs.declared.ImageCheck.TheVariants.{Fine, Fault}
 
 -- the paper's number of each fault, and what it answers with
 abbrev pub fault_numbers : ImageFault → List ℕ
@@ -18,9 +16,9 @@ fault_numbers Layout = 3 ∷ 0 ∷ []
 fault_numbers (FunctionTable k) = 4 ∷ k ∷ []
 fault_numbers (Instruction k) = 5 ∷ k ∷ []
 
-abbrev pub check_numbers : ImageCheck → List ℕ
-check_numbers Fine = []
-check_numbers (Fault f) = fault_numbers f
+abbrev pub check_numbers : Result Unit ImageFault → List ℕ
+check_numbers (Ok u) = []
+check_numbers (Err f) = fault_numbers f
 
 -- ---- header and functions
 -- both tables stand where their counts put them, and the image ends where the instructions do

@@ -1,19 +1,23 @@
-// The program image: its records, and the check of bytes that are said to be one. The Rust has no image; this one is document 01's.
+// The program image: its records, the check of bytes that are said to be one, and the program that a checked one holds. The Rust has
+// no image; this one is document 01's.
 #![tactic(auto)]
 
-ghost use Rattle.std.specs.Prelude.{◌≡◌};
+ghost use Rattle.std.specs.Prelude.{◌≡◌, ◌≤◌, [], ◌∷◌, length};
 ghost use Rattle.basis.specs.Answers.{first_of};
 ghost use Rattle.image.specs.Records.{form1, form1_instr, instr_place};
-ghost use Rattle.image.specs.Image.{check_numbers, layout_holds, table_fault, within, record_holds, record_fault, image_fault};
+ghost use Rattle.image.specs.Image.{fault_numbers, check_numbers, layout_holds, table_fault, within, record_holds, record_fault, image_fault};
 
 use instr::Instr;
 
+pub mod program;
 pub mod record;
 
-use record::{FUNCTION_SIZE, HEADER_SIZE, Header, INSTR_SIZE, function_at, header_of, instr_at};
+use record::{
+    FUNCTION_SIZE, HEADER_SIZE, Header, INSTR_SIZE, whole_function, whole_header, whole_instr,
+};
 
 // Why bytes are not an image: refusals 1 to 5. The last two say which function or instruction.
-#[derive(Clone, Copy)]
+#[derive(Clone, Copy, Debug, PartialEq, Eq)]
 pub enum ImageFault {
     Short,
     Form,
@@ -22,10 +26,19 @@ pub enum ImageFault {
     Instruction(usize),
 }
 
-#[derive(Clone, Copy)]
-pub enum ImageCheck {
-    Fine,
-    Fault(ImageFault),
+impl ImageFault {
+    // The refusal's number, and which function or instruction: 0 where there is none to name.
+    pub fn numbers(self) -> (u64, u64)
+        ensures { fault_numbers self ≡ result.0 ∷ result.1 ∷ [] }
+    {
+        match self {
+            ImageFault::Short => (1, 0),
+            ImageFault::Form => (2, 0),
+            ImageFault::Layout => (3, 0),
+            ImageFault::FunctionTable(k) => (4, k as u64),
+            ImageFault::Instruction(k) => (5, k as u64),
+        }
+    }
 }
 
 // The greatest number of two bytes, and of four.
@@ -34,73 +47,53 @@ const ANY: usize = 0xffff;
 const WORD: u32 = 0xffff_ffff;
 
 // Both tables and the end of the image are where the counts put them.
+#[tactic(auto, unfolding(crate::specs::Image::layout_holds))]
 fn layout_holds(h: Header, len: usize) -> bool
     ensures { result ≡ layout_holds form1 h len }
 {
     let code = HEADER_SIZE + FUNCTION_SIZE * h.functions as usize;
     let end = code + INSTR_SIZE * h.instructions as usize;
-    if h.table as usize != HEADER_SIZE {
-        return false;
-    }
-    if h.code as usize != code {
-        return false;
-    }
-    if h.total as usize != end {
-        return false;
-    }
-    len == end
+    h.table as usize == HEADER_SIZE
+        && h.code as usize == code
+        && h.total as usize == end
+        && len == end
 }
 
 // The first of the functions that is wrong, or their number where only the sum is.
-#[tactic(auto, using(crate::proofs::Checks::row_spare))]
-fn table_fault(image: &[u8], functions: u32, instructions: u32) -> ImageCheck
+#[tactic(auto, using(basis::proofs::First::first_none, crate::proofs::Checks::start_none, crate::proofs::Checks::row_spare, crate::proofs::Checks::row_apart, crate::proofs::Checks::row_right, crate::proofs::Checks::start_next, crate::proofs::Checks::sum_wrong, crate::proofs::Checks::sum_right))]
+fn table_fault(image: &[u8], functions: u32, instructions: u32) -> Result<(), ImageFault>
+    requires { instr_place form1 functions 0 ≤ length image.now }
     ensures { check_numbers result ≡ table_fault image.now functions instructions }
 {
     let n = functions as usize;
-    let mut k = 0;
     let mut start = 0;
-    while k < n {
-        let f = function_at(image, HEADER_SIZE + FUNCTION_SIZE * k);
-        if f.zero != 0 {
-            return ImageCheck::Fault(ImageFault::FunctionTable(k));
+    for k in 0..n {
+        let f = whole_function(image, HEADER_SIZE + FUNCTION_SIZE * k);
+        if f.zero != 0 || f.first as usize != start {
+            return Err(ImageFault::FunctionTable(k));
         }
-        if f.first as usize != start {
-            return ImageCheck::Fault(ImageFault::FunctionTable(k));
-        }
-        start = f.first as usize + f.count as usize;
-        k += 1;
+        start += f.count as usize;
     }
     if start != instructions as usize {
-        return ImageCheck::Fault(ImageFault::FunctionTable(n));
+        return Err(ImageFault::FunctionTable(n));
     }
-    ImageCheck::Fine
+    Ok(())
 }
 
-// No field is above its limit.
+// No field is above its limit. The five limits are plain numbers, and no struct: each stands once, in a row of the table below.
+#[tactic(auto, unfolding(crate::specs::Image::within))]
 fn fields_within(i: Instr, small: u8, a: usize, b: usize, c: usize, w: u32) -> bool
     ensures { result ≡ within i small a b c w }
 {
-    if i.small > small {
-        return false;
-    }
-    if i.a > a {
-        return false;
-    }
-    if i.b > b {
-        return false;
-    }
-    if i.c > c {
-        return false;
-    }
-    i.w <= w
+    i.small <= small && i.a <= a && i.b <= b && i.c <= c && i.w <= w
 }
 
-// The record of an opcode with the fields that this opcode uses, and no other.
-fn record_holds(op: u8, i: Instr) -> bool
-    requires { op ≡ i.op }
+// The record of an opcode with the fields that this opcode uses, and no other. What an opcode may have is decided by its number, with
+// ranges, here and wherever opcodes are told apart: that is a rule of the project, so there is no enum of opcodes.
+fn record_holds(i: Instr) -> bool
     ensures { result ≡ record_holds i }
 {
-    match op {
+    match i.op {
         0..=1 => fields_within(i, 0, 0, 0, 0, 0),
         2..=3 | 55 => fields_within(i, 0, ANY, 0, 0, 0),
         4 => fields_within(i, 3, ANY, 0, 0, 0),
@@ -115,38 +108,34 @@ fn record_holds(op: u8, i: Instr) -> bool
 }
 
 // The first of the instructions that is wrong.
-fn record_fault(image: &[u8], functions: u32, instructions: u32) -> ImageCheck
+#[tactic(auto, using(basis::proofs::First::first_none, crate::proofs::Checks::record_wrong, crate::proofs::Checks::record_right))]
+fn record_fault(image: &[u8], functions: u32, instructions: u32) -> Result<(), ImageFault>
+    requires { instr_place form1 functions instructions ≤ length image.now }
     ensures { check_numbers result ≡ first_of (record_fault (λ k. form1_instr image.now (instr_place form1 functions k))) instructions }
 {
     let base = HEADER_SIZE + FUNCTION_SIZE * functions as usize;
-    let n = instructions as usize;
-    let mut k = 0;
-    while k < n {
-        let i = instr_at(image, base + INSTR_SIZE * k);
-        if !record_holds(i.op, i) {
-            return ImageCheck::Fault(ImageFault::Instruction(k));
+    for k in 0..instructions as usize {
+        if !record_holds(whole_instr(image, base + INSTR_SIZE * k)) {
+            return Err(ImageFault::Instruction(k));
         }
-        k += 1;
     }
-    ImageCheck::Fine
+    Ok(())
 }
 
-#[tactic(auto, using(crate::proofs::Checks::at_form))]
-pub fn check_image(image: &[u8]) -> ImageCheck
+#[tactic(auto, using(crate::proofs::Checks::at_form, crate::proofs::Checks::at_short, crate::proofs::Checks::at_layout, crate::proofs::Checks::at_table, crate::proofs::Checks::at_records))]
+pub fn check_image(image: &[u8]) -> Result<(), ImageFault>
     ensures { check_numbers result ≡ image_fault form1 image.now }
 {
     if image.len() < HEADER_SIZE {
-        return ImageCheck::Fault(ImageFault::Short);
+        return Err(ImageFault::Short);
     }
-    let h = header_of(image);
+    let h = whole_header(image);
     if h.form != 1 {
-        return ImageCheck::Fault(ImageFault::Form);
+        return Err(ImageFault::Form);
     }
     if !layout_holds(h, image.len()) {
-        return ImageCheck::Fault(ImageFault::Layout);
+        return Err(ImageFault::Layout);
     }
-    match table_fault(image, h.functions, h.instructions) {
-        ImageCheck::Fault(f) => ImageCheck::Fault(f),
-        ImageCheck::Fine => record_fault(image, h.functions, h.instructions),
-    }
+    table_fault(image, h.functions, h.instructions)?;
+    record_fault(image, h.functions, h.instructions)
 }

@@ -5,7 +5,7 @@
 ghost use Rattle.std.specs.Prelude.{◌≡◌, set};
 ghost use Rattle.lent.specs.Records.{record_at};
 
-#[derive(Clone, Copy)]
+#[derive(Clone, Copy, Debug, Default, PartialEq, Eq)]
 pub struct FrameRecord {
     pub function: u64,
     pub place: u64,
@@ -13,20 +13,11 @@ pub struct FrameRecord {
     pub first: u64,
 }
 
-// Record k, or one of zeros where there is none. It is read through a `&mut`, as its caller has the records so.
-pub fn record_at(frames: &mut [FrameRecord], k: usize) -> FrameRecord
-    ensures { (result ≡ record_at frames.old k) × (frames.new ≡ frames.old) }
+// Record k, or one of zeros where there is none.
+pub fn record_at(frames: &[FrameRecord], k: usize) -> FrameRecord
+    ensures { result ≡ record_at frames.now k }
 {
-    if k < frames.len() {
-        frames[k]
-    } else {
-        FrameRecord {
-            function: 0,
-            place: 0,
-            dst: 0,
-            first: 0,
-        }
-    }
+    frames.get(k).copied().unwrap_or_default()
 }
 
 // Where there is no record k, nothing is stored.

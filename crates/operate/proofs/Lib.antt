@@ -1,4 +1,4 @@
 pub mod Words
+pub mod Order
 pub mod Rows
-pub mod Operands
 pub mod Values

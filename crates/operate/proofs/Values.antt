@@ -1,4 +1,5 @@
 -- What the rules compute from values is a value. Assumes nothing.
+use Rattle.std.specs.Prelude.{Some, None, Result, Ok, Err}
 use Prim.Native.Nat.{ℕ, ◌/◌, ◌%◌, ◌^◌, ◌≤◌, ◌<◌}
 use mathlib.Core.Bool.{Bool, true, false, ◌&&◌}
 use mathlib.Core.Path.{◌≡◌, refl, subst}
@@ -22,11 +23,7 @@ use Rattle.value.specs.Fixed.{fx_of, fx_product, fx_quotient, fx_divided}
 use Rattle.value.specs.Value.{payloads, register, word_of, HoldsValue}
 use Rattle.value.proofs.Words.{filled}
 use Rattle.instr.specs.declared.Instr.{Instr}
-use Rattle.operate.specs.declared.Outcome.{Outcome}
-use Rattle.operate.specs.declared.Outcome.TheVariants.{Value, Trap, NoValue}
-use Rattle.operate.specs.declared.read.Read.{Read}
-use Rattle.operate.specs.declared.read.Read.TheVariants.{Payload, Fault}
-use Rattle.operate.specs.Rule.{valued, bool_result, i32_result, u32_result, fx_result}
+use Rattle.operate.specs.Rule.{Outcome, valued, bool_result, i32_result, u32_result, fx_result}
 use Rattle.operate.specs.Opcodes.{rules, rule_of}
 use Rattle.operate.specs.Operate.{read_as, reading, read_one, read_two, read_dividing, read_shortcut, read_any, computed, operated}
 use Rattle.operate.specs.Values.{HoldValues, LoadsValue}
@@ -34,16 +31,20 @@ use Rattle.operate.proofs.Rows.{computes_nothing, computes_none}
 
 -- an outcome that is a value only at words that hold one
 abbrev Fine : Outcome → Type 0
-Fine o = (w : ℕ) → o ≡ Value w → HoldsValue w
+Fine o = (w : ℕ) → o ≡ Ok (Some w) → HoldsValue w
 
-trap_fine : (t : CoreTrap) → Fine (Trap t)
+trap_fine : (t : CoreTrap) → Fine (Err t)
 trap_fine t w q = absurd (let z : ◌≡◌ {A = ℕ} 0 1 = cc in omega arith)
 
-either_fine : (b : Bool) (o u : Outcome) → Fine o → Fine u → Fine (pick b o u)
-either_fine true o u h g = h
-either_fine false o u h g = g
+-- an outcome made of what a test chooses
+chosen_fine : {A : Type 0} (f : A → Outcome) (b : Bool) (x y : A) → (b ≡ true → Fine (f x)) → (b ≡ false → Fine (f y)) → Fine (f (pick b x y))
+chosen_fine f true x y h g = h refl
+chosen_fine f false x y h g = g refl
 
-word_fine : {n : ℕ} → HoldsValue n → Fine (Value n)
+either_fine : (b : Bool) (o u : Outcome) → Fine o → Fine u → Fine (pick b o u)
+either_fine b o u h g = chosen_fine (λ v. v) b o u (λ e. h) (λ e. g)
+
+word_fine : {n : ℕ} → HoldsValue n → Fine (Ok (Some n))
 word_fine {n} h w q = let e : n ≡ w = cc in subst HoldsValue e h
 
 kind_fine : (k p : ℕ) → k < 9 → p < payloads k → Fine (valued k p)
@@ -72,52 +73,34 @@ unfolding word_of
 fx_held z h = record { value = value.Fx (record { 0 = z }); held = h; is = refl }
 
 i32_fine : (z : ℤ) → Fine (i32_result (checked_i32 z))
-i32_fine z = by (between (negsuc 2147483647) (pos 2147483647) z) refl
-  where
-    by : (b : Bool) → between (negsuc 2147483647) (pos 2147483647) z ≡ b → Fine (i32_result (checked_i32 z))
-    by true e = rw e (word_fine (i32_held z (in_i32 z e)))
-    by false e = rw e (trap_fine _)
+i32_fine z =
+    chosen_fine i32_result (between (negsuc 2147483647) (pos 2147483647) z) (Ok z) _ (λ e. word_fine (i32_held z (in_i32 z e))) (λ e. trap_fine _)
 
 fx_fine : (z : ℤ) → Fine (fx_result (fx_of (checked_i32 z)))
-fx_fine z = by (between (negsuc 2147483647) (pos 2147483647) z) refl
-  where
-    by : (b : Bool) → between (negsuc 2147483647) (pos 2147483647) z ≡ b → Fine (fx_result (fx_of (checked_i32 z)))
-    by true e = rw e (word_fine (fx_held z (in_i32 z e)))
-    by false e = rw e (trap_fine _)
+fx_fine z =
+    chosen_fine (λ c. fx_result (fx_of c)) (between (negsuc 2147483647) (pos 2147483647) z) (Ok z) _ (λ e. word_fine (fx_held z (in_i32 z e))) (λ e. trap_fine _)
 
 u32_fine : (z : ℤ) → Fine (u32_result (checked_u32 z))
 u32_fine (negsuc n) = trap_fine _
-u32_fine (pos n) = by (between (pos 0) (pos 4294967295) (pos n)) refl
+u32_fine (pos n) =
+    chosen_fine u32_result (between (pos 0) (pos 4294967295) (pos n)) (Ok n) _ (λ e. kind_fine 4 n (omega arith) (omega (arith, leb-true n 4294967295 (small (leb 0 n) e)))) (λ e. trap_fine _)
   where
     small : (b : Bool) → (b && leb n 4294967295) ≡ true → leb n 4294967295 ≡ true
     small true q = q
     small false q = absurd (let z : ◌≡◌ {A = ℕ} 0 1 = cc in omega arith)
 
-    by : (b : Bool) → between (pos 0) (pos 4294967295) (pos n) ≡ b → Fine (u32_result (checked_u32 (pos n)))
-    by true e = rw e (kind_fine 4 n (omega arith) (omega (arith, leb-true n 4294967295 (small (leb 0 n) e))))
-    by false e = rw e (trap_fine _)
-
 -- a division that may trap first
 i32_divided : (a b : ℤ) → Fine (i32_result (divided_i32 a b))
-i32_divided a b = by (is_zero b) refl
-  where
-    by : (t : Bool) → is_zero b ≡ t → Fine (i32_result (divided_i32 a b))
-    by true e = rw e (trap_fine DivisionByZero)
-    by false e = rw e (i32_fine (quot_z a b))
+i32_divided a b =
+    chosen_fine i32_result (is_zero b) (Err DivisionByZero) (checked_i32 (quot_z a b)) (λ e. trap_fine _) (λ e. i32_fine (quot_z a b))
 
 u32_divided : (a b : ℤ) → Fine (u32_result (divided_u32 a b))
-u32_divided a b = by (is_zero b) refl
-  where
-    by : (t : Bool) → is_zero b ≡ t → Fine (u32_result (divided_u32 a b))
-    by true e = rw e (trap_fine DivisionByZero)
-    by false e = rw e (u32_fine (quot_z a b))
+u32_divided a b =
+    chosen_fine u32_result (is_zero b) (Err DivisionByZero) (checked_u32 (quot_z a b)) (λ e. trap_fine _) (λ e. u32_fine (quot_z a b))
 
 fx_divided_lem : (a b : ℤ) → Fine (fx_result (fx_of (fx_divided a b)))
-fx_divided_lem a b = by (is_zero b) refl
-  where
-    by : (t : Bool) → is_zero b ≡ t → Fine (fx_result (fx_of (fx_divided a b)))
-    by true e = rw e (trap_fine DivisionByZero)
-    by false e = rw e (fx_fine (fx_quotient a b))
+fx_divided_lem a b =
+    chosen_fine (λ c. fx_result (fx_of c)) (is_zero b) (Err DivisionByZero) (checked_i32 (fx_quotient a b)) (λ e. trap_fine _) (λ e. fx_fine (fx_quotient a b))
 
 -- ---- quads: two bits stay two
 inverse_small : (q : ℕ) → q < 4 → inverse_bits q < 4
@@ -127,12 +110,12 @@ quad_fine : (q : ℕ) → q < 4 → Fine (valued 1 q)
 quad_fine q h = kind_fine 1 q (omega arith) h
 
 -- ---- reading: a payload that was read is one of its kind's
-read_small : (k : ℕ) (win : List ℕ) (r p : ℕ) → read_as k win r ≡ Payload p → p < payloads k
+read_small : (k : ℕ) (win : List ℕ) (r p : ℕ) → read_as k win r ≡ Ok p → p < payloads k
 unfolding read_as
 read_small k win r p e = by (leb (length win) r) (eqb (get_or win r 0 / 2 ^ 32) k) (ltb (get_or win r 0 % 2 ^ 32) (payloads k)) refl e
   where
     by : (x y t : Bool) → ltb (get_or win r 0 % 2 ^ 32) (payloads k) ≡ t
-        → pick x (Fault InvalidRegister) (pick (y && t) (Payload (get_or win r 0 % 2 ^ 32)) (Fault TypeMismatch)) ≡ Payload p → p < payloads k
+        → pick x (Err InvalidRegister) (pick (y && t) (Ok (get_or win r 0 % 2 ^ 32)) (Err TypeMismatch)) ≡ Ok p → p < payloads k
     by true y t l q = absurd (let z : ◌≡◌ {A = ℕ} 0 1 = cc in omega arith)
     by false false t l q = absurd (let z : ◌≡◌ {A = ℕ} 0 1 = cc in omega arith)
     by false true false l q = absurd (let z : ◌≡◌ {A = ℕ} 0 1 = cc in omega arith)
@@ -143,9 +126,9 @@ module _ (k : ℕ) (win : List ℕ) where
   reading_fine : (r : ℕ) (f : ℕ → Outcome) → ((p : ℕ) → p < payloads k → Fine (f p)) → Fine (reading (read_as k win r) f)
   reading_fine r f g = by (read_as k win r) refl
     where
-      by : (x : Read) → read_as k win r ≡ x → Fine (reading (read_as k win r) f)
-      by (Payload p) e = rw e (g p (read_small k win r p e))
-      by (Fault t) e = rw e (trap_fine t)
+      by : (x : Result ℕ CoreTrap) → read_as k win r ≡ x → Fine (reading (read_as k win r) f)
+      by (Ok p) e = rw e (g p (read_small k win r p e))
+      by (Err t) e = rw e (trap_fine t)
 
   one_fine : (f : ℕ → Outcome) (src : ℕ) → ((p : ℕ) → p < payloads k → Fine (f p)) → Fine (read_one k f win src)
   unfolding read_one
@@ -159,7 +142,7 @@ module _ (k : ℕ) (win : List ℕ) where
   dividing_fine : (f : ℕ → ℕ → Outcome) (lhs rhs : ℕ) → ((l r : ℕ) → l < payloads k → r < payloads k → Fine (f l r)) → Fine (read_dividing k f win lhs rhs)
   unfolding read_dividing
   dividing_fine f lhs rhs g =
-      reading_fine rhs (λ r. pick (eqb r 0) (Trap DivisionByZero) (reading (read_as k win lhs) (λ l. f l r)))
+      reading_fine rhs (λ r. pick (eqb r 0) (Err DivisionByZero) (reading (read_as k win lhs) (λ l. f l r)))
       (λ r h. either_fine (eqb r 0) _ _ (trap_fine DivisionByZero) (reading_fine lhs (λ l. f l r) (λ l j. g l r j h)))
 
 shortcut_fine : (stop : ℕ) (win : List ℕ) (lhs rhs : ℕ) → Fine (read_shortcut stop win lhs rhs)
@@ -170,11 +153,8 @@ shortcut_fine stop win lhs rhs =
 
 any_fine : (win : List ℕ) (src : ℕ) → HoldValues win → Fine (read_any win src)
 unfolding read_any
-any_fine win src h = by (leb (length win) src) refl
-  where
-    by : (b : Bool) → leb (length win) src ≡ b → Fine (pick b (Trap InvalidRegister) (Value (get_or win src 0)))
-    by true e = trap_fine InvalidRegister
-    by false e = word_fine (h src (leb-false (length win) src e))
+any_fine win src h =
+    chosen_fine (λ o. o) (leb (length win) src) _ _ (λ e. trap_fine InvalidRegister) (λ e. word_fine (h src (leb-false (length win) src e)))
 
 -- ---- the rows, in the order of the numbers
 module _ (i : Instr) (win : List ℕ) (held : HoldValues win) where
@@ -247,10 +227,10 @@ module _ (i : Instr) (win : List ℕ) (held : HoldValues win) where
 
 -- whatever an opcode computes from registers that hold values is a value
 pub computes_values : (op : ℕ) (i : Instr) (win : List ℕ) → LoadsValue op i → HoldValues win
-    → (w : ℕ) → operated op i win ≡ Value w → HoldsValue w
+    → (w : ℕ) → operated op i win ≡ Ok (Some w) → HoldsValue w
 computes_values op i win v held = by (dec_lt op 3) (dec_lt op 51)
   where
-    nothing_fine : {o : Outcome} → NoValue ≡ o → Fine o
+    nothing_fine : {o : Outcome} → Ok None ≡ o → Fine o
     nothing_fine e w q = absurd (let z : ◌≡◌ {A = ℕ} 0 1 = cc in omega arith)
 
     by : Dec (op < 3) → Dec (op < 51) → Fine (operated op i win)

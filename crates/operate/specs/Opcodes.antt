@@ -6,8 +6,7 @@ use Rattle.quad.specs.Quad.{inverse_bits, is_known, is_conflict, is_null}
 use Rattle.value.specs.Checked.{signed, checked_i32, checked_u32, divided_i32, divided_u32}
 use Rattle.value.specs.Fixed.{fx_of, fx_product, fx_divided}
 use Rattle.value.specs.Value.{unit_kind, quad_kind, bool_kind, i32_kind, u32_kind, fx_kind}
-use Rattle.operate.specs.declared.Outcome.{Outcome}
-use Rattle.operate.specs.Rule.{Rule, valued, bool_result, i32_result, u32_result, fx_result}
+use Rattle.operate.specs.Rule.{Outcome, Rule, valued, bool_result, i32_result, u32_result, fx_result}
 use Rattle.operate.specs.Rule.Rule.{nothing, loads, one, two, dividing, shortcut, moves}
 
 -- two values of a kind are equal where their payloads are

@@ -1,16 +1,14 @@
 -- The shapes that the rules of opcodes have, and the words that their results become.
-use Rattle.std.specs.Prelude.{ℕ, Bool}
+use Rattle.std.specs.Prelude.{ℕ, ℤ, Bool, Option, Some, Result, Ok, Err}
 use Rattle.basis.specs.Choice.{pick}
+use Rattle.runtime.specs.declared.CoreTrap.{CoreTrap}
 use Rattle.value.specs.Checked.{payload}
 use Rattle.value.specs.Value.{bool_kind, i32_kind, u32_kind, fx_kind, register}
-use Rattle.value.specs.declared.checked.CheckedI32.{CheckedI32}
-use Rattle.value.specs.declared.checked.CheckedI32.TheVariants as i32
-use Rattle.value.specs.declared.checked.CheckedU32.{CheckedU32}
-use Rattle.value.specs.declared.checked.CheckedU32.TheVariants as u32
-use Rattle.value.specs.declared.fx.CheckedFx.{CheckedFx}
-use Rattle.value.specs.declared.fx.CheckedFx.TheVariants as fx
-use Rattle.operate.specs.declared.Outcome.{Outcome}
-use Rattle.operate.specs.declared.Outcome.TheVariants.{Value, Trap}
+use Rattle.value.specs.declared.fx.Fx.{Fx}
+
+-- what an instruction makes of the registers: a register word, no value, or a trap
+abbrev pub Outcome : Type 0
+Outcome = Result (Option ℕ) CoreTrap
 
 -- what an opcode computes, in terms of the payloads of its operands
 pub data Rule : Type 0 where
@@ -31,19 +29,19 @@ pub data Rule : Type 0 where
 
 -- ---- results as register words
 abbrev pub valued : ℕ → ℕ → Outcome
-valued kind p = Value (register kind p)
+valued kind p = Ok (Some (register kind p))
 
 unfoldable pub bool_result : Bool → Outcome
 bool_result b = valued bool_kind (pick b 1 0)
 
-abbrev pub i32_result : CheckedI32 → Outcome
-i32_result (i32.Value v) = valued i32_kind (payload v)
-i32_result (i32.Trap t) = Trap t
+abbrev pub i32_result : Result ℤ CoreTrap → Outcome
+i32_result (Ok v) = valued i32_kind (payload v)
+i32_result (Err t) = Err t
 
-abbrev pub u32_result : CheckedU32 → Outcome
-u32_result (u32.Value v) = valued u32_kind v
-u32_result (u32.Trap t) = Trap t
+abbrev pub u32_result : Result ℕ CoreTrap → Outcome
+u32_result (Ok v) = valued u32_kind v
+u32_result (Err t) = Err t
 
-abbrev pub fx_result : CheckedFx → Outcome
-fx_result (fx.Value v) = valued fx_kind (payload v.0)
-fx_result (fx.Trap t) = Trap t
+abbrev pub fx_result : Result Fx CoreTrap → Outcome
+fx_result (Ok v) = valued fx_kind (payload v.0)
+fx_result (Err t) = Err t

@@ -6,44 +6,44 @@ ghost use Rattle.operate.specs.Operate.{read_as};
 
 use crate::Outcome;
 use runtime::CoreTrap;
-use value::word::{KIND_BOOL, KIND_QUAD, KIND_UNIT};
+use value::word::Kind;
 
-#[derive(Clone, Copy)]
-pub enum Read {
-    Payload(u32),
-    Fault(CoreTrap),
-}
+// A kind is its number here: `operand` and `word` are public and take any number, and a `Kind` would ask more of their callers.
+const UNIT: u8 = Kind::Unit as u8;
+
+const QUAD: u8 = Kind::Quad as u8;
+
+const BOOL: u8 = Kind::Bool as u8;
 
 // How many payloads a kind has.
 fn payloads_of(kind: u8) -> u64
     ensures { (result ≡ payloads kind) × (result ≤ 2 ^ 32) }
 {
     match kind {
-        KIND_UNIT => 1,
-        KIND_QUAD => 4,
-        KIND_BOOL => 2,
+        UNIT => 1,
+        QUAD => 4,
+        BOOL => 2,
         _ => 0x1_0000_0000,
     }
 }
 
-// A register read as a kind. The words of a kind lie side by side, so one test from the first of them decides.
-pub fn operand(win: &[u64], r: usize, kind: u8) -> Read
+// A register read as a kind. The words of a kind lie side by side: a word is one of them unless it lies below the first or past the last.
+#[tactic(auto, using(crate::proofs::Words::read_missing, crate::proofs::Words::read_below, crate::proofs::Words::read_inside, crate::proofs::Words::read_above))]
+pub fn operand(win: &[u64], r: usize, kind: u8) -> Result<u32, CoreTrap>
     ensures { result ≡ read_as kind win.now r }
 {
-    if win.len() <= r {
-        return Read::Fault(CoreTrap::InvalidRegister);
-    }
-    let word = win[r];
-    let first = (kind as u64) * 0x1_0000_0000;
+    let word = *win.get(r).ok_or(CoreTrap::InvalidRegister)?;
+    let first = kind as u64 * 0x1_0000_0000;
+    // Tried: `checked_sub`. Its two tests are no plainer than these, and the compiler made both in each read where it joins these into one,
+    // so that the machine's loop had an eighth more code. It was not timed.
     if word < first {
-        return Read::Fault(CoreTrap::TypeMismatch);
+        return Err(CoreTrap::TypeMismatch);
     }
     let payload = word - first;
-    let limit = payloads_of(kind);
-    if payload < limit {
-        Read::Payload(payload as u32)
+    if payload < payloads_of(kind) {
+        Ok(payload as u32)
     } else {
-        Read::Fault(CoreTrap::TypeMismatch)
+        Err(CoreTrap::TypeMismatch)
     }
 }
 
@@ -51,5 +51,5 @@ pub fn operand(win: &[u64], r: usize, kind: u8) -> Read
 pub fn word(kind: u8, payload: u32) -> Outcome
     ensures { result ≡ valued kind payload }
 {
-    Outcome::Value((kind as u64) * 0x1_0000_0000 + (payload as u64))
+    Ok(Some(kind as u64 * 0x1_0000_0000 + payload as u64))
 }

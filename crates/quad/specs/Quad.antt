@@ -1,11 +1,9 @@
 -- Quads by their bits: null N 0, false F 1, true T 2, conflict S 3. Join and meet are the bits joined by or and by and; the other
 -- rules follow, each over the bits, which is what a register holds.
-use Rattle.std.specs.Prelude.{ℕ, Bool, ◌||◌, eqb}
+use Rattle.std.specs.Prelude.{ℕ, Bool, ◌||◌, eqb, Option, Some, None}
 use Rattle.basis.specs.Choice.{pick}
 use Rattle.quad.specs.declared.QuadState.{QuadState}
 use Rattle.quad.specs.declared.QuadState.TheVariants.{N, F, T, S}
-use Rattle.quad.specs.declared.QuadFound.{QuadFound}
-use Rattle.quad.specs.declared.QuadFound.TheVariants.{State, NoState}
 
 abbrev pub quad_bits : QuadState → ℕ
 quad_bits N = 0
@@ -28,7 +26,7 @@ abbrev pub is_null : ℕ → Bool
 is_null b = eqb b (quad_bits N)
 
 -- and back: the numbers below 4 are states, and no other number is
-unfoldable pub state_at : ℕ → QuadFound
+unfoldable pub state_at : ℕ → Option QuadState
 state_at b =
-    pick (eqb b (quad_bits N)) (State N)
-    (pick (eqb b (quad_bits F)) (State F) (pick (eqb b (quad_bits T)) (State T) (pick (eqb b (quad_bits S)) (State S) NoState)))
+    pick (eqb b (quad_bits N)) (Some N)
+    (pick (eqb b (quad_bits F)) (Some F) (pick (eqb b (quad_bits T)) (Some T) (pick (eqb b (quad_bits S)) (Some S) None)))

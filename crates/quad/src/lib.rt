@@ -5,43 +5,26 @@ ghost use Rattle.std.specs.Prelude.{◌≡◌, ◌<◌};
 ghost use Rattle.std.specs.Int.Bits.{bit_or, bit_and};
 ghost use Rattle.quad.specs.Quad.{quad_bits, state_at, inverse_bits, is_known, is_conflict, is_null};
 
-#[derive(Clone, Copy)]
+#[derive(Clone, Copy, Debug, PartialEq, Eq)]
 pub enum QuadState {
-    N,
-    F,
-    T,
-    S,
-}
-
-// What a number of bits stands for: Rust's `Option<QuadState>`.
-#[derive(Clone, Copy)]
-pub enum QuadFound {
-    State(QuadState),
-    NoState,
+    N = 0,
+    F = 1,
+    T = 2,
+    S = 3,
 }
 
 impl QuadState {
     pub fn bits(self) -> u8
         ensures { result ≡ quad_bits self }
     {
-        match self {
-            QuadState::N => 0,
-            QuadState::F => 1,
-            QuadState::T => 2,
-            QuadState::S => 3,
-        }
+        self as u8
     }
 
-    pub fn from_bits(bits: u8) -> QuadFound
+    #[tactic(auto, using(crate::proofs::Bits::state_found, crate::proofs::Bits::no_state), unfolding(crate::specs::Quad::state_at))]
+    pub fn from_bits(bits: u8) -> Option<Self>
         ensures { result ≡ state_at bits }
     {
-        match bits {
-            0 => QuadFound::State(QuadState::N),
-            1 => QuadFound::State(QuadState::F),
-            2 => QuadFound::State(QuadState::T),
-            3 => QuadFound::State(QuadState::S),
-            _ => QuadFound::NoState,
-        }
+        if bits < 4 { Some(state_of(bits)) } else { None }
     }
 
     pub fn is_null(self) -> bool

@@ -1,23 +1,17 @@
 // What becomes of a line.
 use std::io;
 
-// It was answered; it is no case; or its answer could not be written.
-#[derive(Clone, Copy)]
-pub enum Answered {
-    Told,
+// Why a line has no answer of its own: it is no case, or the answer could not be written.
+#[derive(Clone, Copy, Debug)]
+pub enum Unanswered {
     NoCase,
-    Failed(io::Error),
+    Unwritten(io::Error),
 }
 
-pub fn told(written: io::Result<()>) -> Answered {
-    match written {
-        Ok(()) => Answered::Told,
-        Err(e) => Answered::Failed(e),
+impl From<io::Error> for Unanswered {
+    fn from(error: io::Error) -> Unanswered {
+        Unanswered::Unwritten(error)
     }
-}
-
-pub fn print_bad(rt: &impl Print) -> io::Result<()> {
-    println!(rt; "bad line")
 }
 
 pub fn print_too_large(rt: &impl Print) -> io::Result<()> {

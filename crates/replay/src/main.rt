@@ -5,11 +5,9 @@
 // Where standard input cannot be read or standard output cannot be written, the answers end there; standard error says so.
 #![tactic(auto)]
 
-ghost use Rattle.std.specs.Prelude.{◌≤◌, ◌<◌, ◌≡◌, length};
-
-use arrayvec::ArrayString;
-use lines::{Answered, print_bad, print_too_large};
-use std::fmt::Write;
+use arrayvec::ArrayVec;
+use failure::Failure;
+use lines::{Unanswered, print_too_large};
 use std::io;
 use std::io::{ErrorKind, Read};
 
@@ -19,188 +17,97 @@ mod operation;
 mod program;
 
 // The longest line, without its line feed.
-const LINE_BYTES: usize = 16384;
+const LINE_BYTES: usize = 16383;
 
-// The first `held` bytes of the buffer are read and not answered. skip: they belong to a line that is too long and has its answer.
-// go: the input has not ended.
-#[derive(Clone, Copy)]
-struct Stream {
-    held: usize,
-    skip: bool,
-    go: bool,
+// As many bytes as one read asks for.
+const CHUNK_BYTES: usize = 4096;
+
+// The line that is being read: its bytes so far, or nothing where it is too long and has its answer.
+#[derive(Drop)]
+struct Line {
+    held: Option<ArrayVec<u8, LINE_BYTES>>,
 }
 
-fn begins(line: &[u8], word: &[u8]) -> bool {
-    if line.len() < word.len() {
-        return false;
+fn answer(rt: &impl Print, line: &[u8]) -> Result<(), Unanswered> {
+    if let Some(text) = line.strip_prefix(b"operate ") {
+        return operation::answer_operation(rt, text);
     }
-    let mut i = 0;
-    while i < word.len() {
-        if line[i] != word[i] {
-            return false;
-        }
-        i += 1;
+    if let Some(text) = line.strip_prefix(b"validate ") {
+        return program::answer_validate(rt, text);
     }
-    true
+    if let Some(text) = line.strip_prefix(b"run ") {
+        return program::answer_run(rt, text);
+    }
+    Err(Unanswered::NoCase)
 }
 
-fn answer(rt: &impl Print, line: &[u8]) -> Answered {
-    if begins(line, b"operate ") {
-        return operation::answer_operation(rt, line);
-    }
-    if begins(line, b"validate ") {
-        return program::answer_validate(rt, line);
-    }
-    if begins(line, b"run ") {
-        return program::answer_run(rt, line);
-    }
-    Answered::NoCase
-}
-
-// The words of an error, without the number that std puts behind them in brackets.
-fn words(text: &str) -> &str {
-    match text.split_once(" (") {
-        Some((words, _)) => words,
-        None => text,
-    }
-}
-
-// Writes a line to standard error: what failed, a colon and the error's words.
-fn fail(rt: &impl Eprint, what: &str, error: io::Error) {
-    let mut text = ArrayString::<256>::new();
-    let _ = write!(text, "{error}");
-    let _ = eprintln!(rt; "{what}: {}", words(text.as_str()));
-}
-
-// Says whether to go on.
-fn goes_on(rt: &impl Eprint, written: io::Result<()>) -> bool {
-    match written {
-        Ok(()) => true,
-        Err(e) => {
-            fail(rt, "replay: standard output", e);
-            false
-        }
-    }
-}
-
-fn answer_line(rt: &(impl Print + Eprint), line: &[u8]) -> bool {
+fn answer_line(rt: &impl Print, line: &[u8]) -> io::Result<()> {
     match answer(rt, line) {
-        Answered::Told => true,
-        Answered::NoCase => goes_on(rt, print_bad(rt)),
-        Answered::Failed(e) => goes_on(rt, Err(e)),
+        Ok(()) => Ok(()),
+        Err(Unanswered::NoCase) => println!(rt; "bad line"),
+        Err(Unanswered::Unwritten(error)) => Err(error),
     }
 }
 
-// Moves the bytes from a place on to the start, and answers how many these are.
-fn drop_front(buf: &mut [u8], from: usize, held: usize) -> usize
-    requires from_le_held { from ≤ held }
-    requires held_in_bounds { held ≤ length buf.old }
-    ensures { result ≤ length buf.new }
-{
-    let left = held - from;
-    let mut i = 0;
-    while i < left {
-        buf[i] = buf[from + i];
-        i += 1;
-    }
-    left
-}
-
-// A whole line is there.
-fn take_line(rt: &(impl Print + Eprint), buf: &mut [u8], end: usize, s: Stream) -> Stream
-    requires end_lt_held { end < s.held }
-    requires held_in_bounds { s.held ≤ length buf.old }
-    ensures { result.held ≤ length buf.new }
-{
-    let go = s.skip || answer_line(rt, &buf[..end]);
-    Stream {
-        held: drop_front(buf, end + 1, s.held),
-        skip: false,
-        go,
-    }
-}
-
-// No line's end is there, and the buffer is full.
-fn give_up(rt: &(impl Print + Eprint), s: Stream) -> Stream
-    ensures { result.held ≡ 0 }
-{
-    let go = s.skip || goes_on(rt, print_too_large(rt));
-    Stream {
-        held: 0,
-        skip: true,
-        go,
-    }
-}
-
-// The input has ended; its last line need not have a line feed.
-fn end_line(rt: &(impl Print + Eprint), buf: &[u8], s: Stream)
-    requires { s.held ≤ length buf.now }
-{
-    let held = s.held;
-    if (held > 0) & !s.skip {
-        answer_line(rt, &buf[..held]);
-    }
-}
-
-// No line's end is there, and the buffer has room for more.
-fn read_on(rt: &(impl Print + Eprint), input: &mut impl Read, buf: &mut [u8], s: Stream) -> Stream
-    requires { s.held ≤ length buf.old }
-    ensures { result.held ≤ length buf.new }
-{
-    let held = s.held;
-    match input.read(&mut buf[held..]) {
-        Ok(0) => end_line(rt, buf, s),
-        Ok(n) => {
-            return Stream {
-                held: held + n,
-                skip: s.skip,
-                go: true,
-            };
+impl Line {
+    fn new() -> Line {
+        Line {
+            held: Some(ArrayVec::new()),
         }
-        Err(e) => {
-            if e.kind() == ErrorKind::Interrupted {
-                return s;
+    }
+
+    // A line feed ends the line, and the next one begins.
+    fn take(&mut self, rt: &impl Print, byte: u8) -> io::Result<()> {
+        match &mut self.held {
+            Some(bytes) if byte == b'\n' => {
+                answer_line(rt, bytes.as_slice())?;
+                bytes.clear();
             }
-            fail(rt, "replay: standard input", e);
+            Some(bytes) => {
+                if bytes.try_push(byte).is_err() {
+                    self.held = None;
+                    print_too_large(rt)?;
+                }
+            }
+            None => {
+                if byte == b'\n' {
+                    *self = Line::new();
+                }
+            }
+        }
+        Ok(())
+    }
+
+    // The input has ended; its last line need not have a line feed.
+    fn end(self, rt: &impl Print) -> io::Result<()> {
+        match self.held {
+            Some(bytes) if !bytes.is_empty() => answer_line(rt, bytes.as_slice()),
+            _ => Ok(()),
         }
     }
-    Stream {
-        held: 0,
-        skip: false,
-        go: false,
-    }
 }
 
-fn turn(rt: &(impl Print + Eprint), input: &mut impl Read, buf: &mut [u8], s: Stream) -> Stream
-    requires { s.held ≤ length buf.old }
-    ensures { result.held ≤ length buf.new }
-{
-    let held = s.held;
-    let end = fields::find(&buf[..held], 0, b'\n');
-    if end < held {
-        return take_line(rt, buf, end, s);
+// A proved loop ends, and nothing says that an input does: it stops after more reads than a list of cases takes.
+fn answer_all(rt: &impl Print, input: &mut impl Read) -> Result<(), Failure> {
+    let mut chunk = [0u8; CHUNK_BYTES];
+    let mut line = Line::new();
+    for _read in 0..u64::MAX {
+        match input.read(&mut chunk) {
+            Ok(0) => return line.end(rt).map_err(Failure::Unwritten),
+            Ok(n) => {
+                for byte in &chunk[..n] {
+                    line.take(rt, *byte).map_err(Failure::Unwritten)?;
+                }
+            }
+            Err(e) if e.kind() == ErrorKind::Interrupted => {}
+            Err(e) => return Err(Failure::Unread(e)),
+        }
     }
-    if held == buf.len() {
-        return give_up(rt, s);
-    }
-    read_on(rt, input, buf, s)
-}
-
-// A proved loop ends, and nothing says that an input does: it counts down from a number that no list of cases reaches.
-fn answer_all(rt: &(impl Print + Eprint), input: &mut impl Read, buf: &mut [u8]) {
-    let mut s = Stream {
-        held: 0,
-        skip: false,
-        go: true,
-    };
-    let mut turns: u64 = 0xffff_ffff;
-    while turns > 0 && s.go {
-        s = turn(rt, input, buf, s);
-        turns -= 1;
-    }
+    Ok(())
 }
 
 fn main(rt: HostRuntime) {
-    let mut buf = [0u8; LINE_BYTES];
-    answer_all(&rt, &mut rt.stdin(), &mut buf);
+    if let Err(failure) = answer_all(&rt, &mut rt.stdin()) {
+        let _ = eprintln!(rt; "replay: {failure}");
+    }
 }

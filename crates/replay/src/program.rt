@@ -1,115 +1,119 @@
-// Lines about whole programs, as `oracle answer` reads them, answered by the functions of the C boundary.
+// Lines about whole programs, as `oracle answer` reads them, answered by the functions of the C boundary. The C interface has numbers for
+// refusals, whose values it writes into five words.
 ghost use Rattle.std.specs.Prelude.{◌≤◌};
 
-use crate::fields::{Field, image, next_number};
-use crate::lines::{Answered, print_too_large, told};
+use crate::fields::{Image, decimal, image, is_space};
+use crate::lines::{Unanswered, print_too_large};
 use capi::{knit_execute, knit_validate};
 use std::io;
-
-// As many bytes as a line has room for.
-const IMAGE_BYTES: usize = 8192;
 
 // Enough for depth limit 64 and functions of up to 256 registers.
 const FRAME_WORDS: usize = 256;
 
 const REGISTERS: usize = 16384;
 
+#[derive(Clone, Copy, Debug, PartialEq, Eq)]
+struct Limits {
+    registers: u16,
+    functions: u16,
+    depth: u16,
+    instrs: u32,
+    fuel: u64,
+}
+
 // How many values an answer with this number has.
 fn values_of(number: u64) -> usize
     ensures { result ≤ 3 }
 {
     match number {
-        1..=7 => 1,
-        12 | 19 => 1,
-        10 | 13 => 2,
-        16..=18 => 2,
-        14..=15 => 3,
-        20 => 3,
+        1..=7 | 12 | 19 => 1,
+        10 | 13 | 16..=18 => 2,
+        14..=15 | 20 => 3,
         _ => 0,
     }
 }
 
-fn print_values(rt: &impl Print, words: &[u64; 5], n: usize) -> io::Result<()>
-    requires { n ≤ 5 }
-{
-    for word in &words[..n] {
-        print!(rt; " {word}")?;
+fn print_values(rt: &impl Print, values: &[u64]) -> io::Result<()> {
+    for value in values {
+        print!(rt; " {value}")?;
     }
     println!(rt)
 }
 
 fn print_refused(rt: &impl Print, number: u64, words: &[u64; 5]) -> io::Result<()> {
     print!(rt; "refused {number}")?;
-    print_values(rt, words, values_of(number))
+    print_values(rt, &words[..values_of(number)])
 }
 
 // Refusals for want of room are this program's, which the Rust has no counterpart for.
 fn print_run(rt: &impl Print, number: u64, words: &[u64; 5]) -> io::Result<()> {
-    if number == 0 {
-        print!(rt; "done")?;
-        return print_values(rt, words, 5);
+    match number {
+        0 => {
+            print!(rt; "done")?;
+            print_values(rt, words)
+        }
+        6 | 7 => print_too_large(rt),
+        _ => print_refused(rt, number, words),
     }
-    if (number == 6) | (number == 7) {
-        return print_too_large(rt);
-    }
-    print_refused(rt, number, words)
 }
 
-// `validate`, five limits and an image: `admitted`, or `refused`, the refusal's number and its values.
-pub fn answer_validate(rt: &impl Print, line: &[u8]) -> Answered {
-    let registers = next_number(line, 9, 0xffff);
-    let functions = next_number(line, registers.at, 0xffff);
-    let depth = next_number(line, functions.at, 0xffff);
-    let instrs = next_number(line, depth.at, 0xffff_ffff);
-    let fuel = next_number(line, instrs.at, 0xffff_ffff_ffff_ffff);
-    if !(registers.good & functions.good & depth.good & instrs.good & fuel.good) {
-        return Answered::NoCase;
-    }
-    let from = fuel.at;
-    let mut bytes = [0u8; IMAGE_BYTES];
-    let Field::Number(count) = image(&line[from..], &mut bytes) else {
-        return Answered::NoCase;
+fn read_validate(text: &[u8]) -> Option<(Limits, Image)> {
+    let mut fields = text.split(is_space);
+    let limits = Limits {
+        registers: decimal(fields.next()?)?,
+        functions: decimal(fields.next()?)?,
+        depth: decimal(fields.next()?)?,
+        instrs: decimal(fields.next()?)?,
+        fuel: decimal(fields.next()?)?,
     };
-    let n = count as usize;
+    let image = image(fields.next()?)?;
+    fields.next().is_none().then_some((limits, image))
+}
+
+fn read_run(text: &[u8]) -> Option<(u64, u16, Image)> {
+    let mut fields = text.split(is_space);
+    let fuel = decimal(fields.next()?)?;
+    let depth = decimal(fields.next()?)?;
+    let image = image(fields.next()?)?;
+    fields.next().is_none().then_some((fuel, depth, image))
+}
+
+// What follows `validate` and a space: five limits and an image. The answer is `admitted`, or `refused`, the refusal's number and its values.
+pub fn answer_validate(rt: &impl Print, text: &[u8]) -> Result<(), Unanswered> {
+    let (limits, image) = read_validate(text).ok_or(Unanswered::NoCase)?;
     let mut words = [0u64; 5];
     let number = knit_validate(
-        &bytes[..n],
-        registers.number as u16,
-        functions.number as u16,
-        depth.number as u16,
-        instrs.number as u32,
-        fuel.number,
+        image.as_slice(),
+        limits.registers,
+        limits.functions,
+        limits.depth,
+        limits.instrs,
+        limits.fuel,
         &mut words,
     );
     if number == 0 {
-        return told(println!(rt; "admitted"));
+        println!(rt; "admitted")?;
+    } else {
+        print_refused(rt, number, &words)?;
     }
-    told(print_refused(rt, number, &words))
+    Ok(())
 }
 
-// `run`, fuel, depth limit and an image: `done`, status, kind, payload, fuel used and digest; `refused` as above; or `too large`.
-pub fn answer_run(rt: &impl Print, line: &[u8]) -> Answered {
-    let fuel = next_number(line, 4, 0xffff_ffff_ffff_ffff);
-    let depth = next_number(line, fuel.at, 0xffff);
-    if !(fuel.good & depth.good) {
-        return Answered::NoCase;
-    }
-    let from = depth.at;
-    let mut bytes = [0u8; IMAGE_BYTES];
-    let Field::Number(count) = image(&line[from..], &mut bytes) else {
-        return Answered::NoCase;
-    };
-    let n = count as usize;
+// What follows `run` and a space: fuel, depth limit and an image. The answer is `done`, status, kind, payload, fuel used and digest;
+// `refused` as above; or `too large`.
+pub fn answer_run(rt: &impl Print, text: &[u8]) -> Result<(), Unanswered> {
+    let (fuel, depth, image) = read_run(text).ok_or(Unanswered::NoCase)?;
     let mut frames = [0u64; FRAME_WORDS];
     let mut registers = [0u64; REGISTERS];
     let mut words = [0u64; 5];
     let number = knit_execute(
-        &bytes[..n],
-        fuel.number,
-        depth.number as u16,
+        image.as_slice(),
+        fuel,
+        depth,
         &mut frames,
         &mut registers,
         &mut words,
     );
-    told(print_run(rt, number, &words))
+    print_run(rt, number, &words)?;
+    Ok(())
 }

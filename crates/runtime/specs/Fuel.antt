@@ -1,17 +1,16 @@
 -- The fuel meter: a charge that fits lowers it; one that does not fit is refused and empties it.
-use Rattle.std.specs.Prelude.{ℕ, ◌-◌, List, [], ◌∷◌, ltb}
+use Rattle.std.specs.Prelude.{ℕ, ◌-◌, List, [], ◌∷◌, ltb, Result, Ok, Err}
 use Rattle.basis.specs.Choice.{pick}
-use Rattle.runtime.specs.declared.Charge.{Charge}
-use Rattle.runtime.specs.declared.Charge.TheVariants.{Paid}
-use Rattle.runtime.specs.declared.Charge.TheVariants as charge
+use Rattle.runtime.specs.declared.CoreTrap.{CoreTrap}
 use Rattle.runtime.specs.declared.CoreTrap.TheVariants as trap
 use Rattle.runtime.specs.Trap.{trap_code}
 
--- a refused charge answers with the trap FuelExceeded
-abbrev pub charge_numbers : Charge → List ℕ
-charge_numbers Paid = []
-charge_numbers charge.FuelExceeded = trap_code trap.FuelExceeded ∷ []
+-- a charge that is paid answers nothing, and a refused one with a trap
+abbrev pub charge_numbers : Result Unit CoreTrap → List ℕ
+charge_numbers (Ok u) = []
+charge_numbers (Err t) = trap_code t ∷ []
 
+-- the trap of a refused charge is FuelExceeded
 unfoldable pub charge_fault : ℕ → ℕ → List ℕ
 charge_fault remaining amount = pick (ltb remaining amount) (trap_code trap.FuelExceeded ∷ []) []
 

@@ -1,10 +1,12 @@
 -- When an admission profile may be used at all.
-use Rattle.std.specs.Prelude.{ℕ, suc, ◌≤◌, ◌<◌, Bool, List, [], ◌∷◌, ltb, eqb}
+use Rattle.std.specs.Prelude.{ℕ, suc, ◌≤◌, ◌<◌, Bool, List, [], ◌∷◌, ltb, eqb, Result, Ok, Err}
 use Rattle.basis.specs.Choice.{pick}
 use Rattle.basis.specs.Answers.{or_else, under}
 use Rattle.runtime.specs.declared.CoreAdmissionProfile.{CoreAdmissionProfile}
-use Rattle.runtime.specs.declared.CoreProfileCheck.{CoreProfileCheck}
-use Rattle.runtime.specs.declared.CoreProfileCheck.TheVariants.{Valid, ZeroLimit, UnboundedLimit}
+use Rattle.runtime.specs.declared.ProfileField.{ProfileField}
+use Rattle.runtime.specs.declared.ProfileField.TheVariants.{MaxRegisters, MaxFunctions, MaxCallDepth, MaxInstrsPerFunction, MaxFuel}
+use Rattle.runtime.specs.declared.CoreProfileError.{CoreProfileError}
+use Rattle.runtime.specs.declared.CoreProfileError.TheVariants.{ZeroLimit, UnboundedLimit}
 
 -- a field's value and the most that it may be
 pub record Limit : Type 0 where
@@ -40,10 +42,21 @@ unfoldable pub profile_fault : CoreAdmissionProfile → List ℕ
 profile_fault p =
     or_else (under 0 (first_number is_zero 1 (limits p))) (under 1 (first_number is_unbounded 1 (limits p)))
 
-abbrev pub profile_numbers : CoreProfileCheck → List ℕ
-profile_numbers Valid = []
-profile_numbers (ZeroLimit field) = 0 ∷ field ∷ []
-profile_numbers (UnboundedLimit field) = 1 ∷ field ∷ []
+-- the numbers of the fields, in their order
+abbrev pub field_number : ProfileField → ℕ
+field_number MaxRegisters = 1
+field_number MaxFunctions = 2
+field_number MaxCallDepth = 3
+field_number MaxInstrsPerFunction = 4
+field_number MaxFuel = 5
+
+abbrev pub error_numbers : CoreProfileError → List ℕ
+error_numbers (ZeroLimit field) = 0 ∷ field_number field ∷ []
+error_numbers (UnboundedLimit field) = 1 ∷ field_number field ∷ []
+
+abbrev pub profile_numbers : Result Unit CoreProfileError → List ℕ
+profile_numbers (Ok u) = []
+profile_numbers (Err e) = error_numbers e
 
 -- the profile that configurations start from
 abbrev pub safe_profile : CoreAdmissionProfile

@@ -1,49 +1,38 @@
 // Source document 001: traps, the admission profile and the fuel meter.
 //
-// Rust's `Result` is an enum for each kind of answer, its `&'static str` for a field the field's number from 1.
+// Where the Rust names a field of a profile by a `&'static str`, a `ProfileField` does so here, whose number answers carry at the C boundary.
 // The rule of `FuelMeter::consume(&mut self)` stands in `charge`, by value; `consume` is thin over it.
 #![tactic(auto)]
 
 ghost use Rattle.std.specs.Prelude.{◌≡◌, eqb};
 ghost use Rattle.runtime.specs.Trap.{trap_code};
-ghost use Rattle.runtime.specs.Profile.{profile_numbers, profile_fault, safe_profile};
+ghost use Rattle.runtime.specs.Profile.{field_number, profile_numbers, profile_fault, safe_profile};
 ghost use Rattle.runtime.specs.Fuel.{charge_numbers, charge_fault, left};
 
-#[derive(Clone, Copy)]
+#[derive(Clone, Copy, Debug, PartialEq, Eq)]
 pub enum CoreTrap {
-    InvalidPc,
-    InvalidRegister,
-    TypeMismatch,
-    DivisionByZero,
-    IntegerOverflow,
-    FuelExceeded,
-    CallDepthExceeded,
-    InvalidFunction,
-    AssertFailed,
-    ExplicitTrap,
+    InvalidPc = 0,
+    InvalidRegister = 1,
+    TypeMismatch = 2,
+    DivisionByZero = 3,
+    IntegerOverflow = 4,
+    FuelExceeded = 5,
+    CallDepthExceeded = 6,
+    InvalidFunction = 7,
+    AssertFailed = 8,
+    ExplicitTrap = 9,
 }
 
 impl CoreTrap {
     pub fn code(self) -> u8
         ensures { result ≡ trap_code self }
     {
-        match self {
-            CoreTrap::InvalidPc => 0,
-            CoreTrap::InvalidRegister => 1,
-            CoreTrap::TypeMismatch => 2,
-            CoreTrap::DivisionByZero => 3,
-            CoreTrap::IntegerOverflow => 4,
-            CoreTrap::FuelExceeded => 5,
-            CoreTrap::CallDepthExceeded => 6,
-            CoreTrap::InvalidFunction => 7,
-            CoreTrap::AssertFailed => 8,
-            CoreTrap::ExplicitTrap => 9,
-        }
+        self as u8
     }
 }
 
-// What a run may use at most. The fields are numbered from 1 in this order.
-#[derive(Clone, Copy)]
+// What a run may use at most.
+#[derive(Clone, Copy, Debug, PartialEq, Eq)]
 pub struct CoreAdmissionProfile {
     pub max_registers: u16,
     pub max_functions: u16,
@@ -52,12 +41,29 @@ pub struct CoreAdmissionProfile {
     pub max_fuel: u64,
 }
 
-// What is wrong with a profile: the number of the first field that is 0, or of the first above its bound.
-#[derive(Clone, Copy)]
-pub enum CoreProfileCheck {
-    Valid,
-    ZeroLimit(u8),
-    UnboundedLimit(u8),
+// The fields of a profile, by the numbers that answers carry.
+#[derive(Clone, Copy, Debug, PartialEq, Eq)]
+pub enum ProfileField {
+    MaxRegisters = 1,
+    MaxFunctions = 2,
+    MaxCallDepth = 3,
+    MaxInstrsPerFunction = 4,
+    MaxFuel = 5,
+}
+
+impl ProfileField {
+    pub fn number(self) -> u8
+        ensures { result ≡ field_number self }
+    {
+        self as u8
+    }
+}
+
+// What is wrong with a profile: the first field that is 0, or the first above its bound.
+#[derive(Clone, Copy, Debug, PartialEq, Eq)]
+pub enum CoreProfileError {
+    ZeroLimit(ProfileField),
+    UnboundedLimit(ProfileField),
 }
 
 impl CoreAdmissionProfile {
@@ -83,58 +89,54 @@ impl CoreAdmissionProfile {
         }
     }
 
-    pub fn validate(self) -> CoreProfileCheck
+    #[tactic(auto, unfolding(crate::specs::Profile::profile_fault))]
+    pub fn validate(self) -> Result<(), CoreProfileError>
         ensures { profile_numbers result ≡ profile_fault self }
     {
         if self.max_registers == 0 {
-            return CoreProfileCheck::ZeroLimit(1);
+            return Err(CoreProfileError::ZeroLimit(ProfileField::MaxRegisters));
         }
         if self.max_functions == 0 {
-            return CoreProfileCheck::ZeroLimit(2);
+            return Err(CoreProfileError::ZeroLimit(ProfileField::MaxFunctions));
         }
         if self.max_call_depth == 0 {
-            return CoreProfileCheck::ZeroLimit(3);
+            return Err(CoreProfileError::ZeroLimit(ProfileField::MaxCallDepth));
         }
         if self.max_instrs_per_function == 0 {
-            return CoreProfileCheck::ZeroLimit(4);
+            return Err(CoreProfileError::ZeroLimit(ProfileField::MaxInstrsPerFunction));
         }
         if self.max_fuel == 0 {
-            return CoreProfileCheck::ZeroLimit(5);
+            return Err(CoreProfileError::ZeroLimit(ProfileField::MaxFuel));
         }
         if self.max_registers > Self::MAX_REGISTERS_BOUND {
-            return CoreProfileCheck::UnboundedLimit(1);
+            return Err(CoreProfileError::UnboundedLimit(ProfileField::MaxRegisters));
         }
         if self.max_functions > Self::MAX_FUNCTIONS_BOUND {
-            return CoreProfileCheck::UnboundedLimit(2);
+            return Err(CoreProfileError::UnboundedLimit(ProfileField::MaxFunctions));
         }
         if self.max_call_depth > Self::MAX_CALL_DEPTH_BOUND {
-            return CoreProfileCheck::UnboundedLimit(3);
+            return Err(CoreProfileError::UnboundedLimit(ProfileField::MaxCallDepth));
         }
         if self.max_instrs_per_function > Self::MAX_INSTRS_BOUND {
-            return CoreProfileCheck::UnboundedLimit(4);
+            return Err(CoreProfileError::UnboundedLimit(ProfileField::MaxInstrsPerFunction));
         }
         if self.max_fuel > Self::MAX_FUEL_BOUND {
-            return CoreProfileCheck::UnboundedLimit(5);
+            return Err(CoreProfileError::UnboundedLimit(ProfileField::MaxFuel));
         }
-        CoreProfileCheck::Valid
+        Ok(())
     }
 }
 
-#[derive(Clone, Copy)]
+#[derive(Clone, Copy, Debug, PartialEq, Eq)]
 pub struct FuelMeter {
     pub remaining: u64,
 }
 
-#[derive(Clone, Copy)]
-pub enum Charge {
-    Paid,
-    FuelExceeded,
-}
-
-#[derive(Clone, Copy)]
+// What is left of a meter that was charged, and whether the charge was paid.
+#[derive(Clone, Copy, Debug, PartialEq, Eq)]
 pub struct Charged {
     pub meter: FuelMeter,
-    pub answer: Charge,
+    pub answer: Result<(), CoreTrap>,
 }
 
 impl FuelMeter {
@@ -145,29 +147,27 @@ impl FuelMeter {
     }
 
     // The rule of a charge, by value: a refused charge empties the meter.
+    #[tactic(auto, unfolding(crate::specs::Fuel::charge_fault, crate::specs::Fuel::left))]
     pub fn charge(self, amount: u64) -> Charged
         ensures { (charge_numbers result.answer ≡ charge_fault self.remaining amount) × (result.meter.remaining ≡ left self.remaining amount) }
     {
-        let remaining = self.remaining;
-        if amount > remaining {
-            return Charged {
-                meter: FuelMeter { remaining: 0 },
-                answer: Charge::FuelExceeded,
-            };
-        }
-        Charged {
-            meter: FuelMeter {
-                remaining: remaining - amount,
+        match self.remaining.checked_sub(amount) {
+            Some(remaining) => Charged {
+                meter: FuelMeter { remaining },
+                answer: Ok(()),
             },
-            answer: Charge::Paid,
+            None => Charged {
+                meter: FuelMeter { remaining: 0 },
+                answer: Err(CoreTrap::FuelExceeded),
+            },
         }
     }
 
     // The Rust's own form: the caller's meter is charged.
-    pub fn consume(&mut self, amount: u64) -> Charge
+    pub fn consume(&mut self, amount: u64) -> Result<(), CoreTrap>
         ensures { (charge_numbers result ≡ charge_fault self.old.remaining amount) × (self.new.remaining ≡ left self.old.remaining amount) }
     {
-        let charged = FuelMeter::charge(*self, amount);
+        let charged = self.charge(amount);
         *self = charged.meter;
         charged.answer
     }

@@ -23,7 +23,6 @@ use Rattle.exec.specs.declared.Ending.{Ending}
 use Rattle.exec.specs.declared.Ending.TheVariants.{Trapped, FrameRoom, RegisterRoom}
 use Rattle.exec.specs.Price.{Price, Fair}
 use Rattle.exec.specs.Lent.{State, top_at}
-use Rattle.exec.specs.declared.Step.TheVariants.{Ends}
 use Rattle.exec.specs.Step.{stops, step, Inside}
 use Rattle.exec.specs.Run.{final, run}
 use Rattle.exec.specs.Execute.{entry_state, entered}
@@ -36,6 +35,7 @@ use Rattle.course.proofs.Entered.{entered_cases}
 use Rattle.course.proofs.Along.{along, at_end}
 use Rattle.safety.specs.Safe.{Safe}
 use Rattle.safety.proofs.Linked.{Sure, Linked, SoundEnd, step_linked}
+use Rattle.std.specs.Prelude.{Result, Ok, Err, Option, Some, None}
 
 -- two endings told apart by their codes
 unlike : (e f : Ending) → (end_code e ≡ end_code f → ⊥) → e ≢ f
@@ -60,7 +60,7 @@ module _ (p : Program) (price : Price) (fair : Fair price) (most fuel : ℕ) (su
     last_linked : Linked p last
     last_linked = along p most (Linked p) SoundEnd (λ t l i. step_linked p sure t l i most) c.steps s c.leads h
 
-    last_sound : Inside p last → step p most last ≡ stops last (Ends (run p price most fuel s).what) → SoundEnd (run p price most fuel s).what
+    last_sound : Inside p last → step p most last ≡ stops last (Err (run p price most fuel s).what) → SoundEnd (run p price most fuel s).what
     last_sound i q = at_end p most (Linked p) SoundEnd (λ t l i. step_linked p sure t l i most) last (run p price most fuel s).what last_linked i q
 
     -- a trap that neither a step of it nor the run itself has

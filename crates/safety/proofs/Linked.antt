@@ -27,6 +27,7 @@ use Rattle.course.proofs.Cases.{window, went_at, regs_at, source, below_at, dst_
 use Rattle.course.proofs.Words.{moved_function, moved_dst, moved_place, moved_top, old_function, old_dst, old_place, caller_place, new_place, new_dst}
 use Rattle.course.proofs.Traps.{Own, OwnWay, straight_own}
 use Rattle.course.proofs.Along.{Keeps}
+use Rattle.std.specs.Prelude.{Result, Ok, Err, Option, Some, None}
 
 -- what a run rests on: every instruction has an opcode and allowed operands
 pub record Sure (p : Program) : Type 0 where
@@ -115,7 +116,7 @@ module _ (p : Program) (sure : Sure p) (s : State) (h : Linked p s) (inside : In
       go k q true x = rw (eqb-true k (s.depth - 1) x, moved_top s.frames s.depth n some h.good.room) l
       go k q false x = rw (moved_place s.frames s.depth n k (eqb-false k (s.depth - 1) x)) (h.places k q)
 
-  jump_inside : (n : ℕ) → went_at p s ≡ To n → n ≤ length_of p (top_at p s).function
+  jump_inside : (n : ℕ) → went_at p s ≡ Ok (To n) → n ≤ length_of p (top_at p s).function
   jump_inside n e =
       let t = subst (OwnWay ⊥ (next_instr p s)) e way in
       let l : (next_instr p s).w < length_of p (top_at p s).function = subst (λ (u : Use). Allowed u p (top_at p s).function (next_instr p s) (next_instr p s).w) t.0 operands.w in
@@ -187,7 +188,7 @@ module _ (p : Program) (sure : Sure p) (s : State) (h : Linked p s) (inside : In
     }
 
   -- ---- Ret
-  reads : went_at p s ≡ Leaves → (next_instr p s).op ≢ Call → (next_instr p s).a < (top_at p s).limit
+  reads : went_at p s ≡ Ok Leaves → (next_instr p s).op ≢ Call → (next_instr p s).a < (top_at p s).limit
   unfolding forms fields_of
   reads l n =
       let low : 54 ≤ (next_instr p s).op = subst (OwnWay ⊥ (next_instr p s)) l way in

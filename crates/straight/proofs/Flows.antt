@@ -1,20 +1,19 @@
 -- What numbers that are not decided one by one ask for. Assumes nothing.
+use Rattle.std.specs.Prelude.{Result, Ok}
 use Prim.Native.Nat.{ℕ, ◌≤◌, ◌<◌}
 use mathlib.Core.Path.{◌≡◌, ap}
 use mathlib.Core.List.{List}
 use native.Mathlib.Omega.{arith}
-use borrow.Author.Tests.{lt-ltb, le-ltb, eq-eqb, ne_eqb}
-use Rattle.runtime.specs.declared.CoreTrap.TheVariants.{AssertFailed}
-use Rattle.value.specs.Value.{bool_kind}
+use borrow.Author.Tests.{lt-ltb, le-ltb, ne_eqb}
+use Rattle.runtime.specs.declared.CoreTrap.{CoreTrap}
 use Rattle.instr.specs.declared.Instr.{Instr}
-use Rattle.operate.specs.declared.Outcome.{Outcome}
-use Rattle.operate.specs.declared.read.Read.TheVariants.{Payload}
-use Rattle.operate.specs.Operate.{read_as, operated}
+use Rattle.operate.specs.Rule.{Outcome}
+use Rattle.operate.specs.Operate.{operated}
 use Rattle.straight.specs.declared.Deed.{Deed}
-use Rattle.straight.specs.declared.Deed.TheVariants.{Next, Trap, Leave}
+use Rattle.straight.specs.declared.Deed.TheVariants.{Leave}
 use Rattle.straight.specs.Flow.{Flow, flow_of}
 use Rattle.straight.specs.Flow.Flow.{leaves}
-use Rattle.straight.specs.Straight.{storing, on_condition, asked, asks}
+use Rattle.straight.specs.Straight.{storing, asked, asks}
 
 -- no number above the jumps stays in its frame
 pub leaves_flow : (op : ℕ) → 54 ≤ op → leaves ≡ flow_of op
@@ -35,19 +34,9 @@ module _ (op : ℕ) (i : Instr) (win : List ℕ) where
   unfolding flow_of asked
   computing n0 n1 n2 h = rw (ne_eqb op 0 n0, ne_eqb op 1 n1, ne_eqb op 2 n2, lt-ltb op 51 h)
 
-  pub stores : (x : Outcome) (d : Deed) → (op ≡ 0 → ⊥) → (op ≡ 1 → ⊥) → (op ≡ 2 → ⊥) → op < 51 → x ≡ operated op i win → d ≡ storing x → d ≡ asks op i win
+  pub stores : (x : Outcome) (d : Result Deed CoreTrap) → (op ≡ 0 → ⊥) → (op ≡ 1 → ⊥) → (op ≡ 2 → ⊥) → op < 51 → x ≡ operated op i win → d ≡ storing x → d ≡ asks op i win
   stores x d n0 n1 n2 h e f = rw (f, e) (computing n0 n1 n2 h)
 
-  pub leaving : 54 ≤ op → Leave ≡ asks op i win
+  pub leaving : 54 ≤ op → Ok Leave ≡ asks op i win
   unfolding asked
   leaving h = ap (λ (f : Flow). asked f op i win) (leaves_flow op h)
-
--- an Assert of a condition that was read
-module _ (i : Instr) (win : List ℕ) (b : ℕ) (read : Payload b ≡ read_as bool_kind win i.a) where
-  pub asserts_false : b ≡ 0 → Trap AssertFailed ≡ asks 2 i win
-  unfolding flow_of asked on_condition
-  asserts_false z = rw (← read, eq-eqb _ _ z)
-
-  pub asserts_true : (b ≡ 0 → ⊥) → Next ≡ asks 2 i win
-  unfolding flow_of asked on_condition
-  asserts_true n = rw (← read, ne_eqb _ _ n)

@@ -1,17 +1,11 @@
 -- The sixteen digits, looked at one by one. Assumes nothing.
-use Prim.Native.Nat.{ℕ, ◌+◌, ◌-◌, ◌≤◌, ◌<◌}
+use Prim.Native.Nat.{ℕ, ◌-◌, ◌<◌}
 use mathlib.Core.Path.{◌≡◌}
 use native.Mathlib.Omega.{arith}
 use lib.Dec.{ltb, eqb, eqb→eq}
 use Rattle.basis.specs.Choice.{pick}
 use Rattle.basis.proofs.Ranges.{passes}
 use Rattle.text.specs.Digits.{digit}
-
-pub digit_low : (d : ℕ) → d < 10 → 48 + d ≡ digit d
-digit_low d h = eqb→eq _ _ (passes (λ k. eqb (48 + k) (digit k)) 0 10 d tt (omega arith) (omega arith))
-
-pub digit_high : (d : ℕ) → 10 ≤ d → d < 16 → 87 + d ≡ digit d
-digit_high d l h = eqb→eq _ _ (passes (λ k. eqb (87 + k) (digit k)) 10 6 d tt l (omega arith))
 
 -- what a digit stands for
 unfoldable pub value : ℕ → ℕ

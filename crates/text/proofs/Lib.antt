@@ -1,6 +1,6 @@
 pub mod Glyphs
 pub mod Stores
-pub mod Widths
 pub mod Texts
+pub mod Widths
 pub mod Apart
 pub mod Unique

@@ -1,37 +1,36 @@
--- How a loop counts the decimal digits of a number. Assumes nothing.
-use Prim.Native.Nat.{ℕ, zero, suc, ◌+◌, ◌-◌, ◌*◌, ◌/◌, ◌^◌, ◌≤◌, ◌<◌}
-use mathlib.Core.Path.{◌≡◌, refl, subst}
-use native.Mathlib.Nat.{pow-succ'}
+-- The decimal digits of a number, counted by the power of ten below it. Assumes nothing.
+use Prim.Native.Nat.{ℕ, zero, suc, ◌+◌, ◌*◌, ◌/◌, ◌^◌, ◌≤◌, ◌<◌, max}
+use mathlib.Core.Path.{◌≡◌, subst}
+use native.Mathlib.Nat.{pow-succ', one-le-pow}
 use native.Mathlib.Omega.{arith}
 use borrow.Author.Tests.{lt-ltb, le-ltb}
 use Rattle.text.specs.Digits.{width_within, width_of}
 
--- so many digits are counted, k more may follow, and the rest has one more than k at most
-pub record Counting (n width rest k : ℕ) : Type 0 where
-  pub all : width + k ≡ 20
-  pub fits : rest < 10 ^ suc k
-  pub counted : width_of n + 1 ≡ width + width_within k rest
+tenth : (n p : ℕ) → n < 10 * p → n / 10 < p
+tenth n p h = omega arith
 
-pub count_begin : (n : ℕ) → n < 2 ^ 64 → Counting n 1 n 19
+of_tenth : (n p : ℕ) → 10 * p ≤ n → p ≤ n / 10
+of_tenth n p h = omega arith
+
+within : (j k n : ℕ) → k ≤ j → (1 ≤ k → 10 ^ k ≤ n) → n < 10 * 10 ^ k → width_within j n ≡ k + 1
+unfolding width_within
+within zero k n l low high = omega arith
+within (suc j) zero n l low high = rw (lt-ltb n 10 high)
+within (suc j) (suc k) n l low high =
+    let big : 10 * 10 ^ k ≤ n = subst (λ (p : ℕ). p ≤ n) (pow-succ' 10 k) (low (omega arith)) in
+    let small : n / 10 < 10 * 10 ^ k = tenth n (10 * 10 ^ k) (subst (λ (p : ℕ). n < 10 * p) (pow-succ' 10 k) high) in
+    let some : 1 ≤ 10 ^ k = one-le-pow k 10 (omega arith) in
+    let rest = within j k (n / 10) (omega arith) (λ h. of_tenth n (10 ^ k) big) small in
+    rw (le-ltb n 10 (omega arith)) (omega arith)
+
+-- a power of ten above one that is no more than the greater of n and 1 is no more than n
+below : (n k : ℕ) → 10 ^ k ≤ max n 1 → 1 ≤ k → 10 ^ k ≤ n
+below n zero h l = absurd (omega arith)
+below n (suc k) h l =
+    let some : 1 ≤ 10 ^ k = one-le-pow k 10 (omega arith) in
+    let ten : 10 * 10 ^ k ≤ max n 1 = subst (λ (p : ℕ). p ≤ max n 1) (pow-succ' 10 k) h in
+    rw (pow-succ' 10 k) (omega arith)
+
+pub width_by_power : (n k : ℕ) → k < 20 → 10 ^ k ≤ max n 1 → max n 1 < 10 * 10 ^ k → width_of n ≡ k + 1
 unfolding width_of
-count_begin n h = record { all = refl; fits = omega arith; counted = omega arith }
-
-tenth : (r p : ℕ) → r < 10 * p → r / 10 < p
-tenth r p h = omega arith
-
-pub count_more : (n width rest k j : ℕ) → j ≡ k - 1 → Counting n width rest k → 9 < rest → Counting n (width + 1) (rest / 10) j
-unfolding width_within
-count_more n width rest zero j h c more = let few : rest < 10 ^ 1 = c.fits in absurd (omega arith)
-count_more n width rest (suc k) j h c more =
-    let same : j ≡ k = omega arith in
-    let one : width_within (suc k) rest ≡ suc (width_within k (rest / 10)) = rw (le-ltb rest 10 more) in
-    rw same (record {
-      all = let e = c.all in omega arith;
-      fits = tenth rest (10 ^ suc k) (subst (λ (p : ℕ). rest < p) (pow-succ' 10 (suc k)) c.fits);
-      counted = let e = c.counted in omega arith;
-    })
-
-pub count_end : (n width rest k : ℕ) → Counting n width rest k → rest ≤ 9 → width ≡ width_of n
-unfolding width_within
-count_end n width rest zero c h = let e = c.counted in omega arith
-count_end n width rest (suc k) c h = let e = c.counted in let one : width_within (suc k) rest ≡ 1 = rw (lt-ltb rest 10 (omega arith)) in omega arith
+width_by_power n k l low high = within 19 k n (omega arith) (below n k low) (omega arith)

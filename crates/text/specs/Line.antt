@@ -1,6 +1,5 @@
 -- The runner's line.
-use Rattle.std.specs.Prelude.{ℕ, ◌*◌, ◌≤◌, Bool, ◌≡◌, List, [], ◌∷◌, ◌++◌, eqb, length, get_or, drop, replicate}
-use Rattle.std.proofs.lemmas.List.Edits.{sets}
+use Rattle.std.specs.Prelude.{ℕ, ◌*◌, Bool, List, [], ◌∷◌, ◌++◌, eqb, length, get_or, drop, replicate}
 use Rattle.basis.specs.Choice.{pick}
 use Rattle.image.specs.Records.{form1}
 use Rattle.exec.specs.Price.{unit}
@@ -22,10 +21,6 @@ line_of answer = pick (eqb (get_or answer 0 0) 0) (ascii "done" ++ fields (drop 
 -- no line is longer: a word, four numbers of at most 20 digits, a space before each, a line feed
 abbrev pub line_bytes : ℕ
 line_bytes = 96
-
--- a text was put at the start of bytes that have room for it; it is so long
-abbrev pub Puts : List ℕ → List ℕ → List ℕ → ℕ → Type 0
-Puts text entry exit count = (exit ≡ sets entry 0 text) × (count ≡ length text) × (count ≤ length entry)
 
 -- ---- the reply to an image
 -- refusal 8: the input is longer than what the runner can hold

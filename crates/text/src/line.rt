@@ -1,73 +1,134 @@
 // The runner's answer to an image: one line of text, by the default configuration.
-ghost use Rattle.std.specs.Prelude.{◌≡◌, [], ◌∷◌, ◌≤◌, length};
-ghost use Rattle.std.proofs.lemmas.List.Edits.{sets};
-ghost use Rattle.image.specs.Image.{fault_numbers};
-ghost use Rattle.exec.specs.Execute.{outcome_numbers, result_numbers};
-ghost use Rattle.text.specs.Line.{line_of, line_bytes, Puts, replied, reply_to};
+ghost use Rattle.std.specs.Prelude.{◌≡◌, ℕ, ◌+◌, ◌*◌, List, [], ◌∷◌, ◌++◌, ◌≤◌, length, take};
+ghost use Rattle.exec.specs.Execute.{executed, outcome_numbers, result_numbers};
+ghost use Rattle.text.specs.Digits.{decimal};
+ghost use Rattle.text.specs.Line.{fields, line_of, line_bytes, ran, replied, reply_to};
 
-use crate::digits::{put_field, put_word};
+use crate::digits::{decimal_width, put_digits};
 use exec::config::CoreConfig;
 use exec::{CoreOutcome, execute_outcome};
-use image::ImageFault;
+use std::marker::Model;
 use value::result::CoreResult;
 
 // As many bytes as the longest line can have.
 pub const LINE_BYTES: usize = 96;
 
-fn put_done(res: CoreResult, out: &mut [u8]) -> usize
-    requires { line_bytes ≤ length out.old }
-    ensures { Puts (line_of (0 ∷ result_numbers res)) out.old out.new result }
+// A line as far as it is written. Clauses see its bytes. It is not written by `write!`: std says what a writer holds only where writing
+// went well, and a line here cannot fail. Memory is fixed, so `reply` takes the bytes and answers how many it wrote. Nor is it an
+// ArrayVec: the archive that C links holds no further crate, and clauses see the bytes.
+#[derive(Drop)]
+struct Line {
+    bytes: [u8; LINE_BYTES],
+    written: usize,
+}
+
+impl Model for Line {
+    ghost Value = { List ℕ };
+
+    ghost view = { λ l. take l.written l.bytes };
+
+    ghost invariant = { λ l. l.written ≤ 96 };
+}
+
+impl Line {
+    // A word, numbers in decimal with a space before each, and the line's end.
+    fn of(word: &[u8], numbers: &[u64]) -> Line
+        requires { length word.now + 21 * length numbers.now + 1 ≤ line_bytes }
+        ensures { result ≡ word.now ++ fields numbers.now }
+    {
+        let mut line = Line {
+            bytes: [0; LINE_BYTES],
+            written: 0,
+        };
+        line.put(word);
+        for n in numbers {
+            line.put(b" ");
+            line.put_decimal(*n);
+        }
+        line.put(b"\n");
+        line
+    }
+
+    fn put(&mut self, word: &[u8])
+        requires { length self.old + length word.now ≤ line_bytes }
+        ensures { self.new ≡ self.old ++ word.now }
+    {
+        let end = self.written + word.len();
+        self.bytes[self.written..end].copy_from_slice(word);
+        self.written = end;
+    }
+
+    fn put_decimal(&mut self, n: u64)
+        requires { length self.old + 20 ≤ line_bytes }
+        ensures text { self.new ≡ self.old ++ decimal n }
+        ensures upper_bound { length self.new ≤ length self.old + 20 }
+    {
+        let end = self.written + decimal_width(n);
+        put_digits(n, 10, &mut self.bytes[self.written..end]);
+        self.written = end;
+    }
+
+    fn text(&self) -> &[u8]
+        ensures value { result.now ≡ self.now }
+        ensures upper_bound { length result.now ≤ line_bytes }
+    {
+        &self.bytes[..self.written]
+    }
+}
+
+#[tactic(auto, unfolding(crate::specs::Line::line_of))]
+fn done(res: CoreResult) -> Line
+    ensures { result ≡ line_of (0 ∷ result_numbers res) }
 {
     let status = res.status;
     let value = res.return_value;
-    put_word(b"done", 0, out);
-    let first = put_field(status.number(), 4, out);
-    let second = put_field(value.kind() as u64, first, out);
-    let third = put_field(value.payload() as u64, second, out);
-    let end = put_field(res.fuel_used, third, out);
-    put_word(b"\n", end, out);
-    end + 1
+    Line::of(
+        b"done",
+        &[
+            status.number(),
+            u64::from(value.kind().number()),
+            u64::from(value.payload()),
+            res.fuel_used,
+        ],
+    )
 }
 
-fn put_refused(number: u64, answer: u64, out: &mut [u8]) -> usize
-    requires line_bytes_in_bounds { line_bytes ≤ length out.old }
-    requires le_number { 1 ≤ number }
-    ensures { Puts (line_of (number ∷ answer ∷ [])) out.old out.new result }
+#[tactic(auto, using(crate::proofs::Texts::refused_line))]
+fn refused(number: u64, answer: u64) -> Line
+    requires { 1 ≤ number }
+    ensures { result ≡ line_of (number ∷ answer ∷ []) }
 {
-    put_word(b"refused", 0, out);
-    let first = put_field(number, 7, out);
-    let end = put_field(answer, first, out);
-    put_word(b"\n", end, out);
-    end + 1
+    Line::of(b"refused", &[number, answer])
 }
 
-fn put_fault(fault: ImageFault, out: &mut [u8]) -> usize
-    requires { line_bytes ≤ length out.old }
-    ensures { Puts (line_of (fault_numbers fault)) out.old out.new result }
-{
-    match fault {
-        ImageFault::Short => put_refused(1, 0, out),
-        ImageFault::Form => put_refused(2, 0, out),
-        ImageFault::Layout => put_refused(3, 0, out),
-        ImageFault::FunctionTable(k) => put_refused(4, k as u64, out),
-        ImageFault::Instruction(k) => put_refused(5, k as u64, out),
-    }
-}
-
-fn put_outcome(outcome: CoreOutcome, out: &mut [u8]) -> usize
-    requires { line_bytes ≤ length out.old }
-    ensures { Puts (line_of (outcome_numbers outcome)) out.old out.new result }
+#[tactic(auto, using(crate::proofs::Texts::some_number))]
+fn answered(outcome: CoreOutcome) -> Line
+    ensures { result ≡ line_of (outcome_numbers outcome) }
 {
     match outcome {
-        CoreOutcome::Done(result) => put_done(result, out),
-        CoreOutcome::Image(fault) => put_fault(fault, out),
-        CoreOutcome::FrameRoom(used) => put_refused(6, used, out),
-        CoreOutcome::RegisterRoom(used) => put_refused(7, used, out),
+        Ok(result) => done(result),
+        Err(refusal) => {
+            let (number, answer) = refusal.numbers();
+            refused(number, answer)
+        }
     }
 }
 
-// The line that answers an image, at the start of `line`, and its length. `more` says that the input has bytes after those in `image`,
-// which is then as long as the runner can hold.
+// The line that answers an image. `more` says that the input has bytes after those in `image`, which is then as long as the runner can
+// hold; both stand beside each other in the clause of `reply` too.
+fn answer(image: &[u8], more: bool, frames: &mut [u64], registers: &mut [u64]) -> Line
+    ensures line { result ≡ line_of (ran image.now more frames.old registers.old).answer }
+    ensures frames_after { frames.new ≡ (ran image.now more frames.old registers.old).frames }
+    ensures registers_after { registers.new ≡ (ran image.now more frames.old registers.old).regs }
+{
+    if more {
+        return refused(8, 0);
+    }
+    answered(execute_outcome(image, CoreConfig::default(), frames, registers))
+}
+
+// That line at the start of `line`, and its length.
+#[tactic(auto, unfolding(crate::specs::Line::reply_to))]
 pub fn reply(
     image: &[u8],
     more: bool,
@@ -78,11 +139,8 @@ pub fn reply(
     ensures registers_after { replied result line.new frames.new registers.new ≡ reply_to image.now more frames.old registers.old line.old }
     ensures upper_bound { result ≤ length line.new }
 {
-    if more {
-        return put_refused(8, 0, line);
-    }
-    put_outcome(
-        execute_outcome(image, CoreConfig::default(), frames, registers),
-        line,
-    )
+    let answer = answer(image, more, frames, registers);
+    let text = answer.text();
+    line[..text.len()].copy_from_slice(text);
+    text.len()
 }

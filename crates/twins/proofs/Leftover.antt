@@ -17,20 +17,20 @@ use Rattle.image.specs.Image.{image_fault}
 use Rattle.image.specs.Program.{Program, decode}
 use Rattle.image.specs.Parts.{functions_of, regs_of, Call}
 use Rattle.straight.specs.declared.Went.{Went}
-use Rattle.straight.specs.declared.Went.TheVariants.{On, To, Fails, Leaves}
+use Rattle.straight.specs.declared.Went.TheVariants.{On, To, Leaves}
 use Rattle.straight.specs.Straight.{straight}
 use Rattle.lent.specs.declared.FrameRecord.{FrameRecord}
 use Rattle.lent.specs.Records.{record_of, words_of, records_of, left_over}
 use Rattle.lent.proofs.Words.{length-words, left_few, words_left, words_whole, records_left}
 use Rattle.exec.specs.declared.frame.Top.{Top}
 use Rattle.exec.specs.declared.Ending.{Ending}
-use Rattle.exec.specs.declared.Step.{Step}
-use Rattle.exec.specs.declared.Step.TheVariants.{Go, Ends}
 use Rattle.exec.specs.Price.{Price}
 use Rattle.exec.specs.Lent.{part, State, state, dst_word, top_of, top_at}
 use Rattle.exec.specs.Step.{Stepped, stepped, stops, goes, moved, landed, too_deep, window_fits, pushed_frames, called, handed, returned, left, acted, next_instr, step, is_past}
 use Rattle.exec.specs.Run.{Final, final, later, onward, cost_at, run_for, run}
 use Rattle.exec.specs.Execute.{made, started, entered, Executed, executed, ended, execution}
+use Rattle.std.specs.Prelude.{Result, Ok, Err}
+use Rattle.runtime.specs.declared.CoreTrap.{CoreTrap}
 
 -- the same with t after its frames: an end, and an execution
 abbrev pub beside : List ℕ → Final → Final
@@ -57,9 +57,9 @@ module _ (t : List ℕ) (few : length t < 4) (m : ℕ) where
     room : d ≤ m
     size : length fr ≡ 4 * m
 
-  abbrev After : Step → List ℕ → Type 0
-  After (Go d) fr = Whole fr d
-  After (Ends e) fr = length fr ≡ 4 * m
+  abbrev After : Result ℕ Ending → List ℕ → Type 0
+  After (Ok d) fr = Whole fr d
+  After (Err e) fr = length fr ≡ 4 * m
 
   -- two steps, two runs and two executions, the second with t
   record Along (o u : Stepped) : Type 0 where
@@ -99,7 +99,7 @@ module _ (t : List ℕ) (few : length t < 4) (m : ℕ) where
     place_same : get_or (fr ++ t) (4 * (d - 1) + 1) 0 ≡ get_or fr (4 * (d - 1) + 1) 0
     place_same = word (4 * (d - 1) + 1) (omega (arith, h.some))
 
-    stopped : (e : Ending) → Along (stops s (Ends e)) (stops r (Ends e))
+    stopped : (e : Ending) → Along (stops s (Err e)) (stops r (Err e))
     stopped e = record { whole = h.size; same = refl }
 
     moved_on : (q : Top) (n : ℕ) (w : List ℕ) → Along (goes (moved s q n w)) (goes (moved r q n w))
@@ -108,11 +108,11 @@ module _ (t : List ℕ) (few : length t < 4) (m : ℕ) where
       same = rw (set-append_left fr t (4 * (d - 1) + 1) n (omega (arith, h.some, h.room, h.size)));
     }
 
-    landed_along : (q : Top) (x y : Stepped) (a : Went) (w : List ℕ) → Along x y → Along (landed s q x a w) (landed r q y a w)
-    landed_along q x y On w b = moved_on q (q.place + 1) w
-    landed_along q x y (To n) w b = moved_on q n w
-    landed_along q x y (Fails c) w b = stopped _
-    landed_along q x y Leaves w b = b
+    landed_along : (q : Top) (x y : Stepped) (a : Result Went CoreTrap) (w : List ℕ) → Along x y → Along (landed s q x a w) (landed r q y a w)
+    landed_along q x y (Ok On) w b = moved_on q (q.place + 1) w
+    landed_along q x y (Ok (To n)) w b = moved_on q n w
+    landed_along q x y (Err c) w b = stopped _
+    landed_along q x y (Ok Leaves) w b = b
 
     handed_along : (v : ℕ) → 1 < d → Along (handed p s v) (handed p r v)
     unfolding handed
@@ -161,10 +161,10 @@ module _ (t : List ℕ) (few : length t < 4) (m : ℕ) where
 
   module _ (p : Program) (price : Price) (most : ℕ) where
     -- ---- a run
-    onward_beside : (c : ℕ) (x : Step) (fr rg : List ℕ) (k l : State → Final) → After x fr
+    onward_beside : (c : ℕ) (x : Result ℕ Ending) (fr rg : List ℕ) (k l : State → Final) → After x fr
         → ((d : ℕ) → Whole fr d → Beside (k (state fr rg d)) (l (state (fr ++ t) rg d))) → Beside (onward c x fr rg k) (onward c x (fr ++ t) rg l)
-    onward_beside c (Go d) fr rg k l w h = record { size = (h d w).size; same = ap (later c) (h d w).same }
-    onward_beside c (Ends e) fr rg k l w h = record { size = w; same = refl }
+    onward_beside c (Ok d) fr rg k l w h = record { size = (h d w).size; same = ap (later c) (h d w).same }
+    onward_beside c (Err e) fr rg k l w h = record { size = w; same = refl }
 
     for_beside : (n units : ℕ) (fr rg : List ℕ) (d : ℕ) → Whole fr d → Beside (run_for p price most n units (state fr rg d)) (run_for p price most n units (state (fr ++ t) rg d))
     unfolding run_for
@@ -191,10 +191,10 @@ module _ (t : List ℕ) (few : length t < 4) (m : ℕ) where
         let l : 4 ≤ length fr = ltb-false (length fr) 4 q in
         record { whole = record { some = omega arith; room = omega arith; size = rw length-sets e }; same = rw (sets_left (record_of p.entry 0 0 0) fr t 0 l) }))))
 
-    started_beside : (x : Step) (fr rg : List ℕ) (k : State → Final) → After x fr
+    started_beside : (x : Result ℕ Ending) (fr rg : List ℕ) (k : State → Final) → After x fr
         → ((d : ℕ) → Whole fr d → Beside (k (state fr rg d)) (k (state (fr ++ t) rg d))) → Beside (started x fr rg k) (started x (fr ++ t) rg k)
-    started_beside (Go d) fr rg k w h = h d w
-    started_beside (Ends e) fr rg k w h = record { size = w; same = refl }
+    started_beside (Ok d) fr rg k w h = h d w
+    started_beside (Err e) fr rg k w h = record { size = w; same = refl }
 
     entered_beside : (fuel : ℕ) (fr rg : List ℕ) → length fr ≡ 4 * m → Beside (entered p price most fuel fr rg) (entered p price most fuel (fr ++ t) rg)
     unfolding entered

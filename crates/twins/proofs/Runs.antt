@@ -9,8 +9,6 @@ use Rattle.image.specs.Parts.{length_of, code_of}
 use Rattle.exec.specs.declared.frame.Top.{Top}
 use Rattle.exec.specs.declared.Ending.{Ending}
 use Rattle.exec.specs.declared.Ending.TheVariants.{Trapped, FrameRoom}
-use Rattle.exec.specs.declared.Step.{Step}
-use Rattle.exec.specs.declared.Step.TheVariants.{Go, Ends}
 use Rattle.exec.specs.Price.{Price, Fair}
 use Rattle.exec.specs.Lent.{State, state, top_of, top_at}
 use Rattle.exec.specs.Step.{Stepped, stops, step, Inside}
@@ -23,6 +21,7 @@ use Rattle.twins.specs.Twins.{Agree, Alike, SameEnd, Abreast, UpTo}
 use Rattle.twins.proofs.Agrees.{less}
 use Rattle.twins.proofs.Steps.{Together, step_both, top_same}
 use Rattle.twins.proofs.Steps.Together.{on, ends, first_refused, second_refused}
+use Rattle.std.specs.Prelude.{Result, Ok, Err}
 
 -- ---- any two that are alike
 module _ (p : Program) (k m : ℕ) (s t : State) (h : Alike p k m s t) where
@@ -44,26 +43,26 @@ module _ (p : Program) (k m : ℕ) (s t : State) (h : Alike p k m s t) where
       subst (λ (d : ℕ). Together p k m (step p most s) (step p most (state t.frames t.regs d))) (sym h.depth)
       (step_both p most k m s.frames s.regs t.frames t.regs s.depth level)
 
-ended_on : (x : Step) (e : Ending) → x ≡ Ends e → GoesOn x → ⊥
+ended_on : (x : Result ℕ Ending) (e : Ending) → x ≡ Err e → GoesOn x → ⊥
 ended_on x e q g = subst GoesOn q g
 
 -- what a step ends with
-abbrev end_of : Step → Ending
-end_of (Go d) = FrameRoom
-end_of (Ends e) = e
+abbrev end_of : Result ℕ Ending → Ending
+end_of (Ok d) = FrameRoom
+end_of (Err e) = e
 
-gone : (x : Step) (d : ℕ) → x ≡ Go d → GoesOn x
+gone : (x : Result ℕ Ending) (d : ℕ) → x ≡ Ok d → GoesOn x
 gone x d q = subst GoesOn (sym q) tt
 
-led : (s : State) (x : Step) (fr rg : List ℕ) (d : ℕ) → x ≡ Go d → ahead s x fr rg ≡ state fr rg d
-led s x fr rg d e = ap (λ (y : Step). ahead s y fr rg) e
+led : (s : State) (x : Result ℕ Ending) (fr rg : List ℕ) (d : ℕ) → x ≡ Ok d → ahead s x fr rg ≡ state fr rg d
+led s x fr rg d e = ap (λ (y : Result ℕ Ending). ahead s y fr rg) e
 
 module _ (p : Program) (price : Price) (fair : Fair price) (most : ℕ) where
   -- a run whose step is refused is refused
-  refused_run : (fuel : ℕ) (t : State) (e : Ending) → Inside p t → cost_at p price t ≤ fuel → (step p most t).answer ≡ Ends e → (run p price most fuel t).what ≡ e
+  refused_run : (fuel : ℕ) (t : State) (e : Ending) → Inside p t → cost_at p price t ≤ fuel → (step p most t).answer ≡ Err e → (run p price most fuel t).what ≡ e
   refused_run fuel t e i a q =
       ap (λ (f : Final). f.what) (run_step p price most fair fuel t i a)
-      ∙ ap (λ (x : Step). (onward (cost_at p price t) x (step p most t).frames (step p most t).regs (λ u. run p price most (fuel - cost_at p price t) u)).what) q
+      ∙ ap (λ (x : Result ℕ Ending). (onward (cost_at p price t) x (step p most t).frames (step p most t).regs (λ u. run p price most (fuel - cost_at p price t) u)).what) q
 
   pub follows : (n fuel k m : ℕ) (s t : State) → Alike p k m s t → Leads p most n s → charged p price most n s ≤ fuel → (Refused (run p price most fuel t).what → ⊥)
       → Abreast p price most k m n s t
@@ -143,7 +142,7 @@ module _ (p : Program) (price : Price) (fair : Fair price) (most : ℕ) where
       goes_on = run_after p price most fair c.steps fuel t w.second (omega (arith, w.charge, c.affords));
     }
       where
-        refusing : Stop p price most left u f.what c.last → step p most u ≡ stops u (Ends f.what)
+        refusing : Stop p price most left u f.what c.last → step p most u ≡ stops u (Err f.what)
         refusing (past e z l) = absurd (subst Refused e r)
         refusing (dry e z i l) = absurd (subst Refused e r)
         refusing (acts z i l q) = q
@@ -168,7 +167,7 @@ module _ (p : Program) (price : Price) (fair : Fair price) (most : ℕ) where
       cost_here = cost_alike p w.frames_to w.regs_to u v w.alike price
 
       -- both steps end the run
-      acting : Inside p v → cost_at p price v ≤ left → step p most u ≡ stops u (Ends f.what) → c.last ≡ cost_at p price u → Together p w.frames_to w.regs_to (step p most u) (step p most v) → SameEnd k m f g
+      acting : Inside p v → cost_at p price v ≤ left → step p most u ≡ stops u (Err f.what) → c.last ≡ cost_at p price u → Together p w.frames_to w.regs_to (step p most u) (step p most v) → SameEnd k m f g
       acting i a q z (on d K M b e x y al) = absurd (ended_on (step p most u).answer f.what (ap (λ (o : Stepped). o.answer) q) (gone (step p most u).answer d x))
       acting i a q z (ends e x y) =
           ending e (cost_at p price v)

@@ -14,13 +14,12 @@ use Rattle.instr.specs.declared.Instr.{Instr}
 use Rattle.image.specs.Program.{Program}
 use Rattle.image.specs.Parts.{functions_of, regs_of, code_of, Call}
 use Rattle.straight.specs.declared.Went.{Went}
-use Rattle.straight.specs.declared.Went.TheVariants.{On, To, Fails, Leaves}
+use Rattle.straight.specs.declared.Went.TheVariants.{On, To, Leaves}
 use Rattle.straight.specs.Straight.{straight}
 use Rattle.straight.proofs.Stays.{Stays, straight_stays}
 use Rattle.exec.specs.declared.frame.Top.{Top}
 use Rattle.exec.specs.declared.Ending.{Ending}
 use Rattle.exec.specs.declared.Ending.TheVariants.{Returned, Trapped, FrameRoom, RegisterRoom}
-use Rattle.exec.specs.declared.Step.TheVariants.{Go, Ends}
 use Rattle.lent.specs.Records.{record_of}
 use Rattle.exec.specs.Lent.{function_word, dst_word, first_word, unit_word, part, State, state, top_of}
 use Rattle.exec.specs.Step.{Stepped, stops, goes, moved, landed, too_deep, window_fits, pushed_frames, pushed_regs, called, handed, returned, left, acted, next_instr, step}
@@ -32,13 +31,15 @@ use Rattle.course.proofs.Cases.{window_fact}
 use Rattle.course.proofs.Words.{moved_function, moved_first, old_function, old_first, new_function, new_first}
 use Rattle.twins.specs.Twins.{Agree, Alike}
 use Rattle.twins.proofs.Agrees.{part_same, set_agrees, put_agrees, sets_agree}
+use Rattle.std.specs.Prelude.{Result, Ok, Err}
+use Rattle.runtime.specs.declared.CoreTrap.{CoreTrap}
 
 -- both go on and are alike, at least as far as before; or both end in the same way; or one is refused for room
 pub data Together (p : Program) (k m : ℕ) (o u : Stepped) : Type 0 where
-  on : (d K M : ℕ) → k ≤ K → m ≤ M → o.answer ≡ Go d → u.answer ≡ Go d → Alike p K M (state o.frames o.regs d) (state u.frames u.regs d) → Together p k m o u
-  ends : (e : Ending) → o.answer ≡ Ends e → u.answer ≡ Ends e → Together p k m o u
-  first_refused : (e : Ending) → o.answer ≡ Ends e → Refused e → Together p k m o u
-  second_refused : (e : Ending) → u.answer ≡ Ends e → Refused e → Together p k m o u
+  on : (d K M : ℕ) → k ≤ K → m ≤ M → o.answer ≡ Ok d → u.answer ≡ Ok d → Alike p K M (state o.frames o.regs d) (state u.frames u.regs d) → Together p k m o u
+  ends : (e : Ending) → o.answer ≡ Err e → u.answer ≡ Err e → Together p k m o u
+  first_refused : (e : Ending) → o.answer ≡ Err e → Refused e → Together p k m o u
+  second_refused : (e : Ending) → u.answer ≡ Err e → Refused e → Together p k m o u
 
 by : (p : Program) (k m : ℕ) (b : Bool) (x y v w : Stepped) → (b ≡ true → Together p k m x v) → (b ≡ false → Together p k m y w) → Together p k m (pick b x y) (pick b v w)
 by p k m true x y v w f g = f refl
@@ -93,17 +94,17 @@ module _ (p : Program) (most k m : ℕ) (fr rg fr' rg' : List ℕ) (d : ℕ) (h 
   moved_both : (n : ℕ) (w : List ℕ) → length w ≡ (top_of p fr d).limit → Both (goes (moved s (top_of p fr d) n w)) (goes (moved t (top_of p fr d) n w))
   moved_both n w e = on d k m (omega arith) (omega arith) refl refl (moved_alike n w e)
 
-  landed_both : (x y : Stepped) (a : Went) (w : List ℕ) → Both x y → Stays (part rg (top_of p fr d).first (top_of p fr d).limit) a w
+  landed_both : (x y : Stepped) (a : Result Went CoreTrap) (w : List ℕ) → Both x y → Stays (part rg (top_of p fr d).first (top_of p fr d).limit) a w
       → Both (landed s (top_of p fr d) x a w) (landed t (top_of p fr d) y a w)
-  landed_both x y On w b e = moved_both ((top_of p fr d).place + 1) w (e ∙ wide)
-  landed_both x y (To n) w b e = moved_both n w (ap length e ∙ wide)
-  landed_both x y (Fails c) w b e = ends (Trapped c) refl refl
-  landed_both x y Leaves w b e = b
+  landed_both x y (Ok On) w b e = moved_both ((top_of p fr d).place + 1) w (e ∙ wide)
+  landed_both x y (Ok (To n)) w b e = moved_both n w (ap length e ∙ wide)
+  landed_both x y (Err c) w b e = ends (Trapped c) refl refl
+  landed_both x y (Ok Leaves) w b e = b
 
   -- ---- Ret
   -- the value v handed to the frame q
   abbrev passed : Top → ℕ → State → ℕ → Stepped
-  passed q dst x v = pick (ltb dst q.limit) (goes (state x.frames (set x.regs (q.first + dst) v) (x.depth - 1))) (stops x (Ends (Trapped InvalidRegister)))
+  passed q dst x v = pick (ltb dst q.limit) (goes (state x.frames (set x.regs (q.first + dst) v) (x.depth - 1))) (stops x (Err (Trapped InvalidRegister)))
 
   handed_alike : (v dst : ℕ) → 1 < d → dst < (top_of p fr (d - 1)).limit
       → Alike p k m (state fr (set rg ((top_of p fr (d - 1)).first + dst) v) (d - 1)) (state fr' (set rg' ((top_of p fr (d - 1)).first + dst) v) (d - 1))
@@ -137,7 +138,7 @@ module _ (p : Program) (most k m : ℕ) (fr rg fr' rg' : List ℕ) (d : ℕ) (h 
   returned_both i =
       let v : ℕ = get_or rg ((top_of p fr d).first + i.a) 0 in
       by p k m (ltb i.a (top_of p fr d).limit) _ _ _ _
-      (λ e. subst (λ (x : ℕ). Both (pick (ltb 1 d) (handed p s v) (stops s (Ends (Returned v)))) (pick (ltb 1 d) (handed p t x) (stops t (Ends (Returned x)))))
+      (λ e. subst (λ (x : ℕ). Both (pick (ltb 1 d) (handed p s v) (stops s (Err (Returned v)))) (pick (ltb 1 d) (handed p t x) (stops t (Err (Returned x)))))
       (sym (source_same i.a (ltb-true _ _ e)))
       (by p k m (ltb 1 d) _ _ _ _ (λ q. handed_both v (ltb-true _ _ q)) (λ q. ends (Returned v) refl refl)))
       (λ e. ends (Trapped InvalidRegister) refl refl)
@@ -204,7 +205,7 @@ module _ (p : Program) (most k m : ℕ) (fr rg fr' rg' : List ℕ) (d : ℕ) (h 
     })
 
   -- a test of room, which may come out differently
-  room_both : (b c : Bool) (e : Ending) → Refused e → (x y : Stepped) → (b ≡ false → c ≡ false → Both x y) → Both (pick b (stops s (Ends e)) x) (pick c (stops t (Ends e)) y)
+  room_both : (b c : Bool) (e : Ending) → Refused e → (x y : Stepped) → (b ≡ false → c ≡ false → Both x y) → Both (pick b (stops s (Err e)) x) (pick c (stops t (Err e)) y)
   room_both true true e r x y f = ends e refl refl
   room_both true false e r x y f = first_refused e refl r
   room_both false true e r x y f = second_refused e refl r

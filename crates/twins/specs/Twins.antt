@@ -5,11 +5,11 @@ use Rattle.image.specs.Parts.{regs_of}
 use Rattle.exec.specs.Price.{Price}
 use Rattle.lent.specs.Records.{frame_words}
 use Rattle.exec.specs.Lent.{function_word, first_word, State}
-use Rattle.exec.specs.declared.Step.TheVariants.{Ends}
 use Rattle.exec.specs.Step.{stops, step}
 use Rattle.exec.specs.Run.{Final, later, cost_at, run}
 use Rattle.exec.specs.Execute.{entry_state}
 use Rattle.course.specs.Course.{after, Leads, charged, Made}
+use Rattle.std.specs.Prelude.{Err}
 
 -- the first n words are there twice, and the same
 pub record Agree (n : ℕ) (xs ys : List ℕ) : Type 0 where
@@ -51,7 +51,7 @@ pub record Abreast (p : Program) (price : Price) (most k m n : ℕ) (s t : State
 pub record UpTo (p : Program) (price : Price) (most fuel k m : ℕ) (s t : State) (f g : Final) : Type 0 where
   pub steps : ℕ
   pub abreast : Abreast p price most k m steps s t
-  pub refuses : step p most (after p most steps s) ≡ stops (after p most steps s) (Ends f.what)
+  pub refuses : step p most (after p most steps s) ≡ stops (after p most steps s) (Err f.what)
   pub frames : f.frames ≡ (after p most steps s).frames
   pub regs : f.regs ≡ (after p most steps s).regs
   pub used : f.used ≡ charged p price most steps t + cost_at p price (after p most steps t)

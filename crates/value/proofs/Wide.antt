@@ -1,34 +1,17 @@
 -- Two i32 in 64 bits: what each operation asks of the machine, and what it gives there. Assumes nothing.
-use Rattle.std.specs.Prelude.{◌≡◌, ℕ, zero, suc, ◌+◌, ◌*◌, ◌/◌, ◌^◌, ◌<◌, ◌≤◌, ℤ, pos, negsuc, ◌+ℤ◌, ◌-ℤ◌, ◌*ℤ◌, neg_ℤ}
+use Rattle.std.specs.Prelude.{◌≡◌, ℕ, zero, suc, ◌*◌, ◌/◌, ◌^◌, ◌<◌, ◌≤◌, ℤ, pos, negsuc, ◌*ℤ◌, neg_ℤ}
 use native.Mathlib.Omega.{arith}
 use native.Mathlib.Nat.{div-le_self, mul-le-mul}
-use native.Mathlib.Decide.{dec_lt}
-use lib.IntN.{sub_ℕ}
 use lib.Signed.{mag, quot_z, shr_z, mag_shr}
 use mir.Syntax.{w32, w64}
 use mir.Val.{SFits, to_z, of_z}
 use mir.Facts.{to_z-of_z}
 use Rattle.value.specs.Fixed.{fx_product, fx_quotient}
-use Rattle.value.proofs.Signs.{sub_below, sub_above}
 
 -- ---- how large a result can be
-below_sub : (a b n : ℕ) → Dec (a < b) → a < n → b ≤ n → mag (sub_ℕ a b) < n
-below_sub a b n (yes h) p q = rw (sub_below a b h) (omega arith)
-below_sub a b n (no h) p q = rw (sub_above a b (omega arith)) (omega arith)
-
-mag_add : (a b : ℤ) (n : ℕ) → mag a < n → mag b < n → mag (a +ℤ b) < n + n
-mag_add (pos a) (pos b) n p q = omega arith
-mag_add (pos a) (negsuc b) n p q = omega (arith, below_sub a (suc b) n (dec_lt a (suc b)) p q)
-mag_add (negsuc a) (pos b) n p q = omega (arith, below_sub b (suc a) n (dec_lt b (suc a)) q p)
-mag_add (negsuc a) (negsuc b) n p q = omega arith
-
 mag_neg : (n : ℕ) → mag (neg_ℤ (pos n)) ≤ n
 mag_neg zero = omega arith
 mag_neg (suc n) = omega arith
-
-mag_negℤ : (z : ℤ) → mag (neg_ℤ z) ≤ suc (mag z)
-mag_negℤ (pos n) = omega (arith, mag_neg n)
-mag_negℤ (negsuc n) = omega arith
 
 -- a product of magnitudes
 pub below_mul : (a b m n : ℕ) → a ≤ m → b ≤ n → a * b ≤ m * n
@@ -59,9 +42,6 @@ wide z = full (half z)
 fits_wide : {z : ℤ} → SFits w32 z → SFits w64 z
 fits_wide f = record { sfits = omega (arith, f.sfits) }
 
-pub wide_asks : {z : ℤ} → SFits w32 z → SFits w64 (half z)
-wide_asks f = rw (to_z-of_z f) (fits_wide f)
-
 pub wide_is : {z : ℤ} → SFits w32 z → wide z ≡ z
 wide_is f = rw (to_z-of_z f) (to_z-of_z (fits_wide f))
 
@@ -69,45 +49,17 @@ module _ {a b : ℤ} (fa : SFits w32 a) (fb : SFits w32 b) where
   both : (f : ℤ → ℤ → ℤ) → f (wide a) (wide b) ≡ f a b
   both f = rw (wide_is fa, wide_is fb)
 
-  asks : (f : ℤ → ℤ → ℤ) → SFits w64 (f a b) → SFits w64 (f (wide a) (wide b))
-  asks f h = rw (both f) h
-
   is : (f : ℤ → ℤ → ℤ) → SFits w64 (f a b) → full (f (wide a) (wide b)) ≡ f a b
   is f h = rw (both f) (to_z-of_z h)
 
-  sum_fits : SFits w64 (a +ℤ b)
-  sum_fits = record { sfits = omega (arith, mag_add a b (2 ^ 31) fa.sfits fb.sfits) }
-
-  pub sum_asks : SFits w64 (wide a +ℤ wide b)
-  sum_asks = asks ◌+ℤ◌ sum_fits
-
-  pub sum_is : full (wide a +ℤ wide b) ≡ a +ℤ b
-  sum_is = is ◌+ℤ◌ sum_fits
-
-  difference_fits : SFits w64 (a -ℤ b)
-  difference_fits =
-      record { sfits = omega (arith, mag_add a (neg_ℤ b) (2 ^ 31 + 1) (omega (arith, fa.sfits)) (omega (arith, mag_negℤ b, fb.sfits))) }
-
-  pub difference_asks : SFits w64 (wide a -ℤ wide b)
-  difference_asks = asks ◌-ℤ◌ difference_fits
-
-  pub difference_is : full (wide a -ℤ wide b) ≡ a -ℤ b
-  difference_is = is ◌-ℤ◌ difference_fits
-
   product_fits : SFits w64 (a *ℤ b)
   product_fits = record { sfits = omega (arith, mag_mul a b (2 ^ 31) (2 ^ 31) fa.sfits fb.sfits) }
-
-  pub product_asks : SFits w64 (wide a *ℤ wide b)
-  product_asks = asks ◌*ℤ◌ product_fits
 
   pub product_is : full (wide a *ℤ wide b) ≡ a *ℤ b
   product_is = is ◌*ℤ◌ product_fits
 
   quotient_fits : SFits w64 (quot_z a b)
   quotient_fits = record { sfits = omega (arith, mag_quot a b, fa.sfits) }
-
-  pub quotient_asks : SFits w64 (quot_z (wide a) (wide b))
-  quotient_asks = asks quot_z quotient_fits
 
   pub quotient_is : full (quot_z (wide a) (wide b)) ≡ quot_z a b
   quotient_is = is quot_z quotient_fits
@@ -121,17 +73,11 @@ module _ {a b : ℤ} (fa : SFits w32 a) (fb : SFits w32 b) where
   scaled_small : mag (a *ℤ pos 65536) ≤ 2 ^ 31 * 65537
   scaled_small = mag_mul a (pos 65536) (2 ^ 31) 65537 fa.sfits (omega arith)
 
-  pub scaled_asks : SFits w64 (wide a *ℤ pos 65536)
-  scaled_asks = rw (wide_is fa) (record { sfits = omega (arith, scaled_small) })
-
   scaled_is : full (wide a *ℤ pos 65536) ≡ a *ℤ pos 65536
   scaled_is = rw (wide_is fa) (to_z-of_z {w = w64} (record { sfits = omega (arith, scaled_small) }))
 
   fx_quotient_fits : SFits w64 (quot_z (a *ℤ pos 65536) b)
   fx_quotient_fits = record { sfits = omega (arith, mag_quot (a *ℤ pos 65536) b, scaled_small) }
-
-  pub fx_quotient_asks : SFits w64 (quot_z (full (wide a *ℤ pos 65536)) (wide b))
-  fx_quotient_asks = rw (scaled_is, wide_is fb) fx_quotient_fits
 
   pub fx_quotient_is : full (quot_z (full (wide a *ℤ pos 65536)) (wide b)) ≡ fx_quotient a b
   fx_quotient_is = rw (scaled_is, wide_is fb) (to_z-of_z {w = w64} fx_quotient_fits)

@@ -1,14 +1,13 @@
 -- Values and the words that hold them in a register: kind times 2^32 plus a payload of 32 bits.
-use Rattle.std.specs.Prelude.{◌≡◌, ℕ, ◌+◌, ◌*◌, ◌/◌, ◌%◌, ◌^◌, ◌<◌, true, false, ◌==◌}
+use Rattle.std.specs.Prelude.{◌≡◌, ℕ, ◌+◌, ◌*◌, ◌/◌, ◌%◌, ◌^◌, ◌<◌, true, false, ◌==◌, Option, Some, None}
 use Rattle.std.specs.Int.Signed.{mag}
 use Rattle.basis.specs.Choice.{pick}
-use Rattle.quad.specs.declared.QuadFound.{QuadFound}
-use Rattle.quad.specs.declared.QuadFound.TheVariants.{State, NoState}
+use Rattle.quad.specs.declared.QuadState.{QuadState}
 use Rattle.quad.specs.Quad.{quad_bits, state_at}
 use Rattle.value.specs.declared.word.CoreValue.{CoreValue}
 use Rattle.value.specs.declared.word.CoreValue.TheVariants.{Unit, Quad, Bool, I32, U32, Fx, Tuple, Record, Adt}
-use Rattle.value.specs.declared.word.WordFound.{WordFound}
-use Rattle.value.specs.declared.word.WordFound.TheVariants.{Value, NoValue}
+use Rattle.value.specs.declared.word.Kind.{Kind}
+use Rattle.value.specs.declared.word.Kind.TheVariants as kind
 use Rattle.value.specs.Checked.{signed, payload}
 
 -- ---- the numbers of the kinds, as registers and the digest carry them
@@ -38,6 +37,17 @@ record_kind = 7
 
 abbrev pub adt_kind : ℕ
 adt_kind = 8
+
+abbrev pub kind_number : Kind → ℕ
+kind_number kind.Unit = unit_kind
+kind_number kind.Quad = quad_kind
+kind_number kind.Bool = bool_kind
+kind_number kind.I32 = i32_kind
+kind_number kind.U32 = u32_kind
+kind_number kind.Fx = fx_kind
+kind_number kind.Tuple = tuple_kind
+kind_number kind.Record = record_kind
+kind_number kind.Adt = adt_kind
 
 -- how many payloads a kind has: they are the numbers below this
 abbrev pub payloads : ℕ → ℕ
@@ -93,30 +103,30 @@ pub record HoldsValue (word : ℕ) : Type 0 where
   pub is : word_of value ≡ word
 
 -- ---- the way back. A word of another kind, or with a payload that its kind does not have, holds no value
-abbrev pub unit_value : ℕ → WordFound
-unit_value p = pick (p == 0) (Value Unit) NoValue
+abbrev pub unit_value : ℕ → Option CoreValue
+unit_value p = pick (p == 0) (Some Unit) None
 
-abbrev pub quad_found : QuadFound → WordFound
-quad_found (State q) = Value (Quad q)
-quad_found NoState = NoValue
+abbrev pub quad_found : Option QuadState → Option CoreValue
+quad_found (Some q) = Some (Quad q)
+quad_found None = None
 
-abbrev pub quad_value : ℕ → WordFound
+abbrev pub quad_value : ℕ → Option CoreValue
 quad_value p = quad_found (state_at p)
 
-abbrev pub bool_value : ℕ → WordFound
-bool_value p = pick (p == 0) (Value (Bool false)) (pick (p == 1) (Value (Bool true)) NoValue)
+abbrev pub bool_value : ℕ → Option CoreValue
+bool_value p = pick (p == 0) (Some (Bool false)) (pick (p == 1) (Some (Bool true)) None)
 
-abbrev pub value_of_kind : ℕ → ℕ → WordFound
+abbrev pub value_of_kind : ℕ → ℕ → Option CoreValue
 value_of_kind k p =
     pick (k == unit_kind) (unit_value p)
     (pick (k == quad_kind) (quad_value p)
     (pick (k == bool_kind) (bool_value p)
-    (pick (k == i32_kind) (Value (I32 (signed p)))
-    (pick (k == u32_kind) (Value (U32 p))
-    (pick (k == fx_kind) (Value (Fx (record { 0 = signed p })))
-    (pick (k == tuple_kind) (Value (Tuple (record { 0 = p })))
-    (pick (k == record_kind) (Value (Record (record { 0 = p })))
-    (pick (k == adt_kind) (Value (Adt (record { 0 = p }))) NoValue))))))))
+    (pick (k == i32_kind) (Some (I32 (signed p)))
+    (pick (k == u32_kind) (Some (U32 p))
+    (pick (k == fx_kind) (Some (Fx (record { 0 = signed p })))
+    (pick (k == tuple_kind) (Some (Tuple (record { 0 = p })))
+    (pick (k == record_kind) (Some (Record (record { 0 = p })))
+    (pick (k == adt_kind) (Some (Adt (record { 0 = p }))) None))))))))
 
-unfoldable pub value_at : ℕ → WordFound
+unfoldable pub value_at : ℕ → Option CoreValue
 value_at word = value_of_kind (word / 2 ^ 32) (word % 2 ^ 32)

@@ -1,39 +1,19 @@
 // Fixed-point numbers: an i32 of raw units of 1/65,536.
-ghost use Rattle.std.specs.Prelude.{◌≡◌, ℤ, ◌+ℤ◌, ◌-ℤ◌};
-ghost use Rattle.value.specs.Checked.{checked_i32, payload};
-ghost use Rattle.value.specs.Fixed.{fx_of, fx_product, fx_divided, ordered};
+ghost use Rattle.std.specs.Prelude.{◌≡◌};
+ghost use Rattle.value.specs.Checked.{payload};
+ghost use Rattle.value.specs.Fixed.{checked_fx, fx_product, fx_quotient, ordered};
 
 use crate::checked;
-use crate::checked::CheckedI32;
+use crate::checked::Checked;
 use runtime::CoreTrap;
+use std::cmp::Ordering;
 
-#[derive(Clone, Copy)]
+#[derive(Clone, Copy, Debug, PartialEq, Eq)]
 pub struct Fx(pub i32);
 
-#[derive(Clone, Copy)]
-pub enum CheckedFx {
-    Value(Fx),
-    Trap(CoreTrap),
-}
-
-// How one number stands to another: Rust's `core::cmp::Ordering`.
-#[derive(Clone, Copy)]
-pub enum Ordering {
-    Less,
-    Equal,
-    Greater,
-}
-
-fn checked_fx(c: CheckedI32) -> CheckedFx
-    ensures { result ≡ fx_of c }
-{
-    match c {
-        CheckedI32::Value(raw) => CheckedFx::Value(Fx(raw)),
-        CheckedI32::Trap(t) => CheckedFx::Trap(t),
-    }
-}
-
 impl Fx {
+    pub const FRACTION_BITS: u32 = 16;
+
     pub fn from_raw(raw: i32) -> Self
         ensures { result.0 ≡ raw }
     {
@@ -53,61 +33,51 @@ impl Fx {
         checked::payload_of(self.0)
     }
 
-    pub fn add_checked(self, other: Self) -> CheckedFx
-        ensures { result ≡ fx_of (checked_i32 (self.0 +ℤ other.0)) }
-    {
-        checked_fx(checked::add_i32(self.0, other.0))
-    }
-
-    pub fn sub_checked(self, other: Self) -> CheckedFx
-        ensures { result ≡ fx_of (checked_i32 (self.0 -ℤ other.0)) }
-    {
-        checked_fx(checked::sub_i32(self.0, other.0))
-    }
-
-    pub fn mul_checked(self, other: Self) -> CheckedFx
-        ensures { result ≡ fx_of (checked_i32 (fx_product self.0 other.0)) }
-    {
-        checked_fx(product(self.0, other.0))
-    }
-
-    pub fn div_checked(self, other: Self) -> CheckedFx
-        ensures { result ≡ fx_of (fx_divided self.0 other.0) }
-    {
-        checked_fx(quotient(self.0, other.0))
-    }
-
+    // The Rust's own inherent method, by value.
     pub fn cmp(self, other: Self) -> Ordering
         ensures { result ≡ ordered self.0 other.0 }
     {
-        compare(self.0, other.0)
+        self.0.cmp(&other.0)
     }
 }
 
-// On raw units. The shift that copies the sign rounds down.
-fn product(a: i32, b: i32) -> CheckedI32
-    ensures { result ≡ checked_i32 (fx_product a b) }
-{
-    checked::fit_i32(((a as i64) * (b as i64)) >> 16)
-}
+// A sum is that of the raw units; a product has its units squared, and a quotient none.
+impl Checked for Fx {
+    type Wide = i64;
 
-fn quotient(a: i32, b: i32) -> CheckedI32
-    ensures { result ≡ fx_divided a b }
-{
-    if b == 0 {
-        return CheckedI32::Trap(CoreTrap::DivisionByZero);
-    }
-    checked::fit_i32(((a as i64) * 65536) / (b as i64))
-}
+    ghost number = { λ x. x.0 };
 
-fn compare(a: i32, b: i32) -> Ordering
-    ensures { result ≡ ordered a b }
-{
-    if a < b {
-        return Ordering::Less;
+    ghost wide = { λ w. w };
+
+    ghost checked = { checked_fx };
+
+    ghost product = { fx_product };
+
+    ghost quotient = { fx_quotient };
+
+    fn fit(wide_result: i64) -> Result<Fx, CoreTrap> {
+        Ok(Fx(i32::fit(wide_result)?))
     }
-    if b < a {
-        return Ordering::Greater;
+
+    fn add_checked(self, other: Fx) -> Result<Fx, CoreTrap> {
+        Ok(Fx(self.0.add_checked(other.0)?))
     }
-    Ordering::Equal
+
+    fn sub_checked(self, other: Fx) -> Result<Fx, CoreTrap> {
+        Ok(Fx(self.0.sub_checked(other.0)?))
+    }
+
+    // The shift that copies the sign rounds down.
+    #[tactic(auto, using(crate::proofs::Wide::fx_product_is))]
+    fn mul_checked(self, other: Fx) -> Result<Fx, CoreTrap> {
+        Fx::fit((self.0 as i64 * other.0 as i64) >> Self::FRACTION_BITS)
+    }
+
+    #[tactic(auto, using(crate::proofs::Wide::fx_quotient_is, crate::proofs::Signs::zero_no))]
+    fn div_checked(self, other: Fx) -> Result<Fx, CoreTrap> {
+        if other.0 == 0 {
+            return Err(CoreTrap::DivisionByZero);
+        }
+        Fx::fit((self.0 as i64 * 65536) / other.0 as i64)
+    }
 }

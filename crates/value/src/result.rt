@@ -5,7 +5,9 @@ ghost use Rattle.value.specs.Result.{status_word, returned_with, trapped_with};
 use crate::word::CoreValue;
 use runtime::CoreTrap;
 
-#[derive(Clone, Copy)]
+// The Rust's own two types. Status and value are a word of the digest each, of a trap too, whose value is Unit; a `Result` would have no
+// value for a trap, and `result_digest` and `trapped_with` of specs/ speak of both.
+#[derive(Clone, Copy, Debug, PartialEq, Eq)]
 pub enum CoreStatus {
     Returned,
     Trapped(CoreTrap),
@@ -18,12 +20,12 @@ impl CoreStatus {
     {
         match self {
             CoreStatus::Returned => 0,
-            CoreStatus::Trapped(t) => 1 + (t.code() as u64),
+            CoreStatus::Trapped(t) => 1 + t.code() as u64,
         }
     }
 }
 
-#[derive(Clone, Copy)]
+#[derive(Clone, Copy, Debug, PartialEq, Eq)]
 pub struct CoreResult {
     pub status: CoreStatus,
     pub return_value: CoreValue,

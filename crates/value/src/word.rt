@@ -1,40 +1,62 @@
 // Values and the register words that hold them: kind times 2^32 plus a payload of 32 bits.
 ghost use Rattle.std.specs.Prelude.{◌≡◌};
-ghost use Rattle.value.specs.Value.{kind_of, payload_of, word_of, value_at, quad_value, bool_value, unit_value};
+ghost use Rattle.value.specs.Value.{kind_number, kind_of, payload_of, word_of, value_at, quad_value, bool_value, unit_value};
 
 use crate::checked;
 use crate::fx::Fx;
-use quad::{QuadFound, QuadState};
+use quad::QuadState;
 
-// The numbers of the kinds.
-pub const KIND_UNIT: u8 = 0;
+// The types of values, by the numbers that registers and the digest carry.
+#[derive(Clone, Copy, Debug, PartialEq, Eq)]
+pub enum Kind {
+    Unit = 0,
+    Quad = 1,
+    Bool = 2,
+    I32 = 3,
+    U32 = 4,
+    Fx = 5,
+    Tuple = 6,
+    Record = 7,
+    Adt = 8,
+}
 
-pub const KIND_QUAD: u8 = 1;
+impl Kind {
+    pub fn number(self) -> u8
+        ensures { result ≡ kind_number self }
+    {
+        self as u8
+    }
+}
 
-pub const KIND_BOOL: u8 = 2;
+// The kinds as words divided by 2^32 give them.
+const UNIT: u64 = Kind::Unit as u64;
 
-pub const KIND_I32: u8 = 3;
+const QUAD: u64 = Kind::Quad as u64;
 
-pub const KIND_U32: u8 = 4;
+const BOOL: u64 = Kind::Bool as u64;
 
-pub const KIND_FX: u8 = 5;
+const I32: u64 = Kind::I32 as u64;
 
-pub const KIND_TUPLE: u8 = 6;
+const U32: u64 = Kind::U32 as u64;
 
-pub const KIND_RECORD: u8 = 7;
+const FX: u64 = Kind::Fx as u64;
 
-pub const KIND_ADT: u8 = 8;
+const TUPLE: u64 = Kind::Tuple as u64;
 
-#[derive(Clone, Copy)]
+const RECORD: u64 = Kind::Record as u64;
+
+const ADT: u64 = Kind::Adt as u64;
+
+#[derive(Clone, Copy, Debug, PartialEq, Eq)]
 pub struct TupleRef(pub u32);
 
-#[derive(Clone, Copy)]
+#[derive(Clone, Copy, Debug, PartialEq, Eq)]
 pub struct RecordRef(pub u32);
 
-#[derive(Clone, Copy)]
+#[derive(Clone, Copy, Debug, PartialEq, Eq)]
 pub struct AdtRef(pub u32);
 
-#[derive(Clone, Copy)]
+#[derive(Clone, Copy, Debug, PartialEq, Eq)]
 pub enum CoreValue {
     Unit,
     Quad(QuadState),
@@ -47,27 +69,20 @@ pub enum CoreValue {
     Adt(AdtRef),
 }
 
-// What a register word holds.
-#[derive(Clone, Copy)]
-pub enum WordFound {
-    Value(CoreValue),
-    NoValue,
-}
-
 impl CoreValue {
-    pub fn kind(self) -> u8
-        ensures { result ≡ kind_of self }
+    pub fn kind(self) -> Kind
+        ensures { kind_number result ≡ kind_of self }
     {
         match self {
-            CoreValue::Unit => KIND_UNIT,
-            CoreValue::Quad(_) => KIND_QUAD,
-            CoreValue::Bool(_) => KIND_BOOL,
-            CoreValue::I32(_) => KIND_I32,
-            CoreValue::U32(_) => KIND_U32,
-            CoreValue::Fx(_) => KIND_FX,
-            CoreValue::Tuple(_) => KIND_TUPLE,
-            CoreValue::Record(_) => KIND_RECORD,
-            CoreValue::Adt(_) => KIND_ADT,
+            CoreValue::Unit => Kind::Unit,
+            CoreValue::Quad(_) => Kind::Quad,
+            CoreValue::Bool(_) => Kind::Bool,
+            CoreValue::I32(_) => Kind::I32,
+            CoreValue::U32(_) => Kind::U32,
+            CoreValue::Fx(_) => Kind::Fx,
+            CoreValue::Tuple(_) => Kind::Tuple,
+            CoreValue::Record(_) => Kind::Record,
+            CoreValue::Adt(_) => Kind::Adt,
         }
     }
 
@@ -77,7 +92,7 @@ impl CoreValue {
         match self {
             CoreValue::Unit => 0,
             CoreValue::Quad(q) => q.bits() as u32,
-            CoreValue::Bool(b) => if b { 1 } else { 0 },
+            CoreValue::Bool(b) => b as u32,
             CoreValue::I32(v) => checked::payload_of(v),
             CoreValue::U32(v) => v,
             CoreValue::Fx(v) => v.payload(),
@@ -87,60 +102,54 @@ impl CoreValue {
         }
     }
 
+    #[tactic(auto, unfolding(crate::specs::Value::word_of))]
     pub fn to_word(self) -> u64
         ensures { result ≡ word_of self }
     {
-        (self.kind() as u64) * 0x1_0000_0000 + (self.payload() as u64)
+        self.kind().number() as u64 * 0x1_0000_0000 + self.payload() as u64
     }
 
-    pub fn from_word(word: u64) -> WordFound
+    #[tactic(auto, using(crate::proofs::Words::no_kind, crate::proofs::Signs::read_back), unfolding(crate::specs::Value::value_at))]
+    pub fn from_word(word: u64) -> Option<CoreValue>
         ensures { result ≡ value_at word }
     {
         let p = (word % 0x1_0000_0000) as u32;
         match word / 0x1_0000_0000 {
-            0 => unit_of(p),
-            1 => quad_of(p),
-            2 => bool_of(p),
-            3 => WordFound::Value(CoreValue::I32(checked::signed_of(p))),
-            4 => WordFound::Value(CoreValue::U32(p)),
-            5 => WordFound::Value(CoreValue::Fx(Fx::from_raw(checked::signed_of(p)))),
-            6 => WordFound::Value(CoreValue::Tuple(TupleRef(p))),
-            7 => WordFound::Value(CoreValue::Record(RecordRef(p))),
-            8 => WordFound::Value(CoreValue::Adt(AdtRef(p))),
-            _ => WordFound::NoValue,
+            UNIT => unit_of(p),
+            QUAD => quad_of(p),
+            BOOL => bool_of(p),
+            I32 => Some(CoreValue::I32(checked::signed_of(p))),
+            U32 => Some(CoreValue::U32(p)),
+            FX => Some(CoreValue::Fx(Fx::from_raw(checked::signed_of(p)))),
+            TUPLE => Some(CoreValue::Tuple(TupleRef(p))),
+            RECORD => Some(CoreValue::Record(RecordRef(p))),
+            ADT => Some(CoreValue::Adt(AdtRef(p))),
+            _ => None,
         }
     }
 }
 
-fn unit_of(p: u32) -> WordFound
+fn unit_of(p: u32) -> Option<CoreValue>
     ensures { result ≡ unit_value p }
 {
-    if p == 0 {
-        WordFound::Value(CoreValue::Unit)
-    } else {
-        WordFound::NoValue
-    }
+    if p == 0 { Some(CoreValue::Unit) } else { None }
 }
 
 // A payload above a byte is no quad's.
-fn quad_of(p: u32) -> WordFound
+#[tactic(auto, using(quad::proofs::Bits::no_state))]
+fn quad_of(p: u32) -> Option<CoreValue>
     ensures { result ≡ quad_value p }
 {
-    if 255 < p {
-        return WordFound::NoValue;
-    }
-    match QuadState::from_bits(p as u8) {
-        QuadFound::State(q) => WordFound::Value(CoreValue::Quad(q)),
-        QuadFound::NoState => WordFound::NoValue,
-    }
+    let bits = u8::try_from(p).ok()?;
+    Some(CoreValue::Quad(QuadState::from_bits(bits)?))
 }
 
-fn bool_of(p: u32) -> WordFound
+fn bool_of(p: u32) -> Option<CoreValue>
     ensures { result ≡ bool_value p }
 {
     match p {
-        0 => WordFound::Value(CoreValue::Bool(false)),
-        1 => WordFound::Value(CoreValue::Bool(true)),
-        _ => WordFound::NoValue,
+        0 => Some(CoreValue::Bool(false)),
+        1 => Some(CoreValue::Bool(true)),
+        _ => None,
     }
 }

@@ -1,11 +1,9 @@
-use Rattle.exec.proofs.Whole.{formed, ends_fault, ends_run}
+use mathlib.Core.Path.{sym}
+use Rattle.exec.proofs.Whole.{ends_refused, ends_run}
 use Rattle.exec.proofs.execute_outcome.Goals as goal
 
-pub enter-e-requires : goal.enter-e-requires
-enter-e-requires c = formed _ (rw c.in-Fine.is at c.check_image.ensures)
+pub returns-in_err-image : goal.returns-in_err-image
+returns-in_err-image c = ends_refused _ _ _ _ _ _ c.in_err-image.ensures.fault _ c.from_residual.ensures.1
 
-pub returns-in-Fault : goal.returns-in-Fault
-returns-in-Fault c = ends_fault _ _ _ _ _ c.in-Fault.fault (rw c.in-Fault.is at c.check_image.ensures)
-
-pub returns-in-Fine : goal.returns-in-Fine
-returns-in-Fine c = ends_run _ _ _ _ _ (rw c.in-Fine.is at c.check_image.ensures) _ _ _ _ _ c.outcome_of.ensures c.enter-e.ensures
+pub returns : goal.returns
+returns c = ends_run _ _ _ _ _ (sym c.in_ok-image.ensures.fine) _ _ _ _ _ c.outcome_of.ensures (rw c.in_ok-image.ensures.same at c.enter.ensures)

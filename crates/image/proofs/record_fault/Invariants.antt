@@ -1,4 +1,4 @@
-use Prim.Native.Nat.{ℕ, ◌+◌, ◌*◌, ◌-◌, ◌≤◌}
+use Prim.Native.Nat.{ℕ, ◌+◌, ◌*◌, ◌≤◌}
 use mathlib.Core.Path.{◌≡◌}
 use mathlib.Core.List.{[]}
 use Rattle.basis.specs.Answers.{first_of}
@@ -7,7 +7,4 @@ use Rattle.image.specs.Image.{record_fault}
 use Rattle.image.proofs.record_fault.Given as goal
 
 abbrev pub invariant-loop-k : goal.invariant-loop-k
-invariant-loop-k l = (l.k ≤ l.n) × (first_of (record_fault (λ (j : ℕ). form1_instr l.image (l.base + 12 * j))) l.k ≡ [])
-
-abbrev pub decreases-loop-k : goal.decreases-loop-k
-decreases-loop-k l = l.n - l.k
+invariant-loop-k l = (l.k ≤ l.k-end) × (first_of (record_fault (λ (j : ℕ). form1_instr l.image (l.base + 12 * j))) l.k ≡ [])

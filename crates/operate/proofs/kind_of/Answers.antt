@@ -4,14 +4,6 @@ use Rattle.operate.specs.Parts.{rule_kind}
 use Rattle.operate.specs.Opcodes.{rules, rule_of}
 use Rattle.operate.proofs.kind_of.Goals as goal
 
-pub returns-in-0-to-17 : goal.returns-in-0-to-17
-unfolding rules rule_of rule_kind has_kind
-returns-in-0-to-17 c = kind_rows 1 9 9 c.args.op tt (omega arith) (omega arith)
-
-pub returns-in-18-to-22 : goal.returns-in-18-to-22
-unfolding rules rule_of rule_kind has_kind
-returns-in-18-to-22 c = kind_rows 2 18 5 c.args.op tt (omega arith) (omega arith)
-
 pub returns-in-23-to-31 : goal.returns-in-23-to-31
 unfolding rules rule_of rule_kind has_kind
 returns-in-23-to-31 c = kind_rows 3 23 9 c.args.op tt (omega arith) (omega arith)

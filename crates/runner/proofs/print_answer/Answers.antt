@@ -1,8 +1,7 @@
 -- The line is that of the bytes that were held, which are the input's.
 use Rattle.std.proofs.Common.{arith}
-use Rattle.runner.proofs.Answered.{line_of_bytes}
+use Rattle.runner.proofs.Answered.{line_of_bytes, of_mapped}
 use Rattle.runner.proofs.print_answer.Goals as goal
 
-pub returns-in-Ok-write_line : goal.returns-in-Ok-write_line
-returns-in-Ok-write_line g c =
-    line_of_bytes _ _ _ c.read_image-held.result c.read_image-held.new.image _ _ 32768 1 (omega arith) (omega arith) c.in-Ok.is c.read_image-held.ensures.whole c.answer-count.ensures.line_after c.in-Ok-write_line.ensures
+pub returns : goal.returns
+returns g c = line_of_bytes _ _ _ c.in_ok-held.held c.read_image.new.image _ _ 32768 1 _ _ c.write_line.result c.map_err-2.result (omega arith) (omega arith) (of_mapped _ _ _ _ _ c.read_image.result c.map_err.result c.in_ok-held.held c.map_err.ensures.cases c.map_err.ensures.variant c.in_ok-held.was c.read_image.ensures.whole) c.answer-count.ensures.line_after c.write_line.ensures c.map_err-2.ensures.variant

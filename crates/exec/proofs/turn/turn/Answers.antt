@@ -4,11 +4,11 @@ use Rattle.exec.proofs.turn.turn.Goals as goal
 
 pub leave-step-requires-clause-ready : goal.leave-step-requires-clause-ready
 leave-step-requires-clause-ready c =
-    stretch_ready _ _ unit_fair _ _ _ _ c.requires.ready _ _ _ _ c.stretch-h.ensures.registers_after
+    stretch_ready _ _ unit_fair _ _ _ _ c.requires _ _ _ _ c.stretch-h.ensures.registers_after
 
 pub leave-step-requires-clause-at_leave : goal.leave-step-requires-clause-at_leave
 leave-step-requires-clause-at_leave c =
-    stretch_leaves _ _ unit_fair _ _ _ _ c.requires.ready _ _ _ (rw c.in-Leaves.is at c.stretch-h.ensures.registers_after)
+    stretch_leaves _ _ unit_fair _ _ _ _ c.requires _ _ _ (rw c.in-Leaves.is at c.stretch-h.ensures.registers_after)
 
 pub returns-in-Past : goal.returns-in-Past
 returns-in-Past c = turn_by _ _ _ _ _ _ _ _ _ _ _ (rw c.in-Past.is at c.stretch-h.ensures.registers_after)

@@ -1,7 +1,0 @@
-use mathlib.Core.Path.{ap, ◌∙◌}
-use Rattle.value.specs.Checked.{checked_i32}
-use Rattle.value.proofs.Wide.{fx_product_is}
-use Rattle.value.proofs.fx.product.Goals as goal
-
-pub returns : goal.returns
-returns c = c.fit_i32.ensures ∙ ap checked_i32 (fx_product_is c.ranges.a c.ranges.b)
