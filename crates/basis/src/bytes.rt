@@ -2,6 +2,19 @@
 ghost use Rattle.std.specs.Prelude.{◌≡◌, ◌+◌, ◌*◌, ◌^◌, ◌<◌, ℕ, slice_index};
 ghost use Rattle.basis.specs.Bytes.{byte_at, half_at, word_at};
 
+// Two bytes, or two halves, put together.
+pub fn join2(low: u8, high: u8) -> u16
+    ensures { result ≡ low + high * 2 ^ 8 }
+{
+    u16::from(low) + u16::from(high) * 0x100
+}
+
+pub fn join4(low: u16, high: u16) -> u32
+    ensures { result ≡ low + high * 2 ^ 16 }
+{
+    u32::from(low) + u32::from(high) * 0x1_0000
+}
+
 #[tactic(auto, unfolding(crate::specs::Bytes::byte_at))]
 pub fn u8_at(bytes: &[u8], i: usize) -> u8
     ensures { result ≡ byte_at bytes.now i }

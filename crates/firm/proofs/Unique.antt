@@ -20,6 +20,8 @@ use Rattle.text.specs.Line.{Replied}
 use Rattle.capi.specs.Boundary.{Crossing, Naming}
 use Rattle.firm.specs.Walked.{«tells·runtime::FuelMeter::consume», tells·lent::record_at, tells·lent::put_record, tells·exec::in_frames::execute_outcome_in_frames}
 use Rattle.basis.proofs.wrapping_mul_u64.Reads as basis::wrapping_mul_u64
+use Rattle.basis.proofs.bytes.join2.Reads as «basis::bytes::join2»
+use Rattle.basis.proofs.bytes.join4.Reads as «basis::bytes::join4»
 use Rattle.basis.proofs.bytes.u8_at.Reads as basis::bytes::u8_at
 use Rattle.basis.proofs.bytes.u16_at.Reads as basis::bytes::u16_at
 use Rattle.basis.proofs.bytes.u32_at.Reads as basis::bytes::u32_at
@@ -111,6 +113,12 @@ use Rattle.firm.proofs.Back.{outcome_unique, execution_unique}
 -- ---- basis: bytes and wrapping products
 pub one·basis::wrapping_mul_u64 : (κs : _) (a : _) → One (basis::wrapping_mul_u64.Learnt κs a)
 one·basis::wrapping_mul_u64 κs a x y e f p q = p ∙ sym q
+
+pub «one·basis::bytes::join2» : (κs : _) (a : _) → One («basis::bytes::join2».Learnt κs a)
+«one·basis::bytes::join2» κs a x y e f p q = p ∙ sym q
+
+pub «one·basis::bytes::join4» : (κs : _) (a : _) → One («basis::bytes::join4».Learnt κs a)
+«one·basis::bytes::join4» κs a x y e f p q = p ∙ sym q
 
 pub one·basis::bytes::u8_at : (κs : _) (a : _) → One (basis::bytes::u8_at.Learnt κs a)
 one·basis::bytes::u8_at κs a x y e f p q = p ∙ sym q
