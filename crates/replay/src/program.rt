@@ -57,7 +57,7 @@ fn print_run(rt: &impl Print, number: u64, words: &[u64; 5]) -> io::Result<()> {
     }
 }
 
-fn read_validate(text: &[u8]) -> Option<(Limits, Image)> {
+fn read_validate(text: &[u8], bytes: &mut Image) -> Option<Limits> {
     let mut fields = text.split(is_space);
     let limits = Limits {
         registers: decimal(fields.next()?)?,
@@ -66,24 +66,25 @@ fn read_validate(text: &[u8]) -> Option<(Limits, Image)> {
         instrs: decimal(fields.next()?)?,
         fuel: decimal(fields.next()?)?,
     };
-    let image = image(fields.next()?)?;
-    fields.next().is_none().then_some((limits, image))
+    image(fields.next()?, bytes)?;
+    fields.next().is_none().then_some(limits)
 }
 
-fn read_run(text: &[u8]) -> Option<(u64, u16, Image)> {
+fn read_run(text: &[u8], bytes: &mut Image) -> Option<(u64, u16)> {
     let mut fields = text.split(is_space);
     let fuel = decimal(fields.next()?)?;
     let depth = decimal(fields.next()?)?;
-    let image = image(fields.next()?)?;
-    fields.next().is_none().then_some((fuel, depth, image))
+    image(fields.next()?, bytes)?;
+    fields.next().is_none().then_some((fuel, depth))
 }
 
 // What follows `validate` and a space: five limits and an image. The answer is `admitted`, or `refused`, the refusal's number and its values.
 pub fn answer_validate(rt: &impl Print, text: &[u8]) -> Result<(), Unanswered> {
-    let (limits, image) = read_validate(text).ok_or(Unanswered::NoCase)?;
+    let mut bytes = Image::new();
+    let limits = read_validate(text, &mut bytes).ok_or(Unanswered::NoCase)?;
     let mut words = [0u64; 5];
     let number = knit_validate(
-        image.as_slice(),
+        bytes.as_slice(),
         limits.registers,
         limits.functions,
         limits.depth,
@@ -102,12 +103,13 @@ pub fn answer_validate(rt: &impl Print, text: &[u8]) -> Result<(), Unanswered> {
 // What follows `run` and a space: fuel, depth limit and an image. The answer is `done`, status, kind, payload, fuel used and digest;
 // `refused` as above; or `too large`.
 pub fn answer_run(rt: &impl Print, text: &[u8]) -> Result<(), Unanswered> {
-    let (fuel, depth, image) = read_run(text).ok_or(Unanswered::NoCase)?;
+    let mut bytes = Image::new();
+    let (fuel, depth) = read_run(text, &mut bytes).ok_or(Unanswered::NoCase)?;
     let mut frames = [0u64; FRAME_WORDS];
     let mut registers = [0u64; REGISTERS];
     let mut words = [0u64; 5];
     let number = knit_execute(
-        image.as_slice(),
+        bytes.as_slice(),
         fuel,
         depth,
         &mut frames,
