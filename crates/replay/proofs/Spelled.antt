@@ -1,10 +1,11 @@
 -- Texts of hexadecimal digits, one digit or one pair after the other. Assumes nothing.
-use Rattle.std.proofs.Common.{ℕ, zero, suc, ◌≡◌, refl, sym, ap, ◌∙◌, ◌+◌, ◌*◌, ◌/◌, ◌%◌, ◌<◌, List, [], ◌∷◌, ◌++◌, length, take, drop, get_or}
+use Rattle.std.proofs.Common.{ℕ, zero, suc, ◌≡◌, refl, sym, ap, ◌∙◌, ◌+◌, ◌*◌, ◌/◌, ◌%◌, ◌^◌, ◌<◌, List, [], ◌∷◌, ◌++◌, length, take, drop, get_or}
 use native.Mathlib.Numerals.{add-one}
 use native.Mathlib.Omega.{arith}
 use mathlib.Core.List.{append_assoc}
 use Rattle.std.specs.Simd.{first_chunks}
-use Rattle.std.proofs.lemmas.Nat.{div-mul-add, mod-mul-add}
+use native.Mathlib.Nat.{pow-succ'}
+use Rattle.std.proofs.lemmas.Nat.{div-mul-add, mod-mul-add, mul-add-lt}
 use Rattle.std.proofs.lemmas.List.{take_more, append-nil, length-take-le, length-drop, drop-drop, take_all}
 use Rattle.std.proofs.Math.Seq.{take-add}
 use Rattle.text.specs.Digits.{digit, digits}
@@ -20,6 +21,10 @@ pub digit_more : (xs : List ℕ) (i n d : ℕ) → i < length xs → d < 16 → 
     → take (i + 1) xs ≡ digits 16 (i + 1) (n * 16 + d)
 unfolding digits
 digit_more xs i n d h small is e = rw (take_more xs i 0 h, e, is, add-one, div-mul-add n 16 d small, mod-mul-add n 16 d small) refl
+
+-- a number of i digits is below 16 ^ i, and with one more digit below 16 ^ (i + 1)
+pub weight_more : (i n d : ℕ) → d < 16 → n < 16 ^ i → n * 16 + d < 16 ^ (i + 1)
+weight_more i n d small h = rw (add-one, pow-succ' 16 i) (mul-add-lt n 16 d (16 ^ i) h small)
 
 -- the two digits of a byte
 two_digits : (h l : ℕ) → h < 16 → l < 16 → digits 16 2 (h * 16 + l) ≡ digit h ∷ digit l ∷ []

@@ -1,5 +1,5 @@
 // Fields of a line. Each value has one spelling only: a reader that let a second one pass would hide a fault in whatever wrote the line.
-ghost use Rattle.std.specs.Prelude.{◌≡◌, ◌<◌, ◌↔◌, IsTrue, IfSome, Ok, OnSome, length};
+ghost use Rattle.std.specs.Prelude.{◌≡◌, ◌^◌, ◌<◌, ◌↔◌, IsTrue, IfSome, Ok, OnSome, length};
 ghost use Rattle.text.specs.Digits.{digit, digits};
 ghost use Rattle.replay.specs.Fields.{IsImageOf, IsPlain};
 
@@ -32,10 +32,11 @@ fn hex_digit(byte: u8) -> Option<u8>
 }
 
 // So many lower-case hexadecimal digits.
-#[tactic(auto, using(crate::proofs::Spelled::no_digit, crate::proofs::Spelled::digit_more))]
+#[tactic(auto, using(crate::proofs::Spelled::no_digit))]
 pub fn hex(text: &[u8], count: usize) -> Option<u64>
     ensures length { OnSome result (length text.now ≡ count) }
     ensures spelling { IfSome result (λ number. text.now ≡ digits 16 count number) }
+    ensures bound { IfSome result (λ number. number < 16 ^ count) }
 {
     if text.len() != count {
         return None;
